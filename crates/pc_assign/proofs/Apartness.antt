@@ -14,10 +14,10 @@ use Rattle.pc_window.specs.Rebasing.{is_in}
 use Rattle.pc_automaton.specs.declared.automaton.AutomatonLeaf.{AutomatonLeaf}
 use Rattle.pc_automaton.specs.Automaton.{AutomatonState, names_written, IsStateAmong, IsAutomaton}
 use Rattle.pc_assign.specs.Uses.{row_uses}
-use Rattle.pc_assign.specs.Pressure.{allowed}
+use Rattle.pc_assign.specs.Pressure.{IsScratch, Last_of_few, Last_of_most}
 use Rattle.pc_assign.specs.Assigned.{state_names, is_register, one_has, used_has, IsLeast, IsParameterChoice, passed_at, ParametersByRule, states_pass}
 use Rattle.pc_assign.specs.Assigned.{passed_to, Parameters, IsDefinitionChoice, First_choice, Second_choice, DestByRule, RowByRule, StateByRule, IsAssigned}
-use Rattle.pc_assign.specs.Assigned.{BeginsWithVariables}
+use Rattle.pc_assign.specs.Assigned.{Registers, BeginsWithVariables}
 use Rattle.pc_assign.specs.Apart.{Differ, AllDiffer, DestApart, KeepsApart, HasAllowed, IsApart, LiveApart, VariablesStay}
 use Rattle.pc_assign.proofs.PassedOn.{PassedAll, HeldAll, states_passed}
 
@@ -61,12 +61,12 @@ always of used name (x ∷ names) h = (λ uses. h.0, always of used name names h
 
 -- ---- rows
 
-dest_apart : (of : ℕ → Option ℕ) (parameters above : List ℕ) (rest : Row AutomatonLeaf) (found : Option ℕ) → DestByRule of parameters above rest found
+dest_apart : (scratch : ℕ) (of : ℕ → Option ℕ) (parameters above : List ℕ) (rest : Row AutomatonLeaf) (found : Option ℕ) → DestByRule scratch of parameters above rest found
     → DestApart of parameters above rest found
-dest_apart of parameters above rest None h = tt
-dest_apart of parameters above rest (Some dest) h = by (of dest) refl h
+dest_apart scratch of parameters above rest None h = tt
+dest_apart scratch of parameters above rest (Some dest) h = by (of dest) refl h
   where
-    chosen : (register : ℕ) → of dest ≡ Some register → IsDefinitionChoice (λ q. one_has of parameters q || one_has of above q)
+    chosen : (register : ℕ) → of dest ≡ Some register → IsDefinitionChoice scratch (λ q. one_has of parameters q || one_has of above q)
         (λ q. used_has (row_uses rest) of parameters q || one_has of above q) register
         → DestApart of parameters above rest (Some dest)
     chosen register is (First_choice least) =
@@ -80,71 +80,71 @@ dest_apart of parameters above rest (Some dest) h = by (of dest) refl h
         (differ_where_used of (row_uses rest) dest register parameters is parts.0, differ_from of dest register above is parts.1)
 
     by : (o : Option ℕ) → of dest ≡ o → IsSomeAnd o
-        (IsDefinitionChoice (λ q. one_has of parameters q || one_has of above q) (λ q. used_has (row_uses rest) of parameters q || one_has of above q))
+        (IsDefinitionChoice scratch (λ q. one_has of parameters q || one_has of above q) (λ q. used_has (row_uses rest) of parameters q || one_has of above q))
         → DestApart of parameters above rest (Some dest)
     by None is h = absurd h
     by (Some register) is h = chosen register is h
 
-row_apart : (of : ℕ → Option ℕ) (parameters above : List ℕ) (row : Row AutomatonLeaf) → RowByRule of parameters above row
+row_apart : (scratch : ℕ) (of : ℕ → Option ℕ) (parameters above : List ℕ) (row : Row AutomatonLeaf) → RowByRule scratch of parameters above row
     → KeepsApart of parameters above row
-row_apart of parameters above (Then item rest) h =
-    (dest_apart of parameters above rest (dest_of item) h.0, row_apart of parameters (named (dest_of item) above) rest h.1)
-row_apart of parameters above (Either on on_yes on_no) h = (row_apart of parameters above on_yes h.0, row_apart of parameters above on_no h.1)
-row_apart of parameters above (At_leaf leaf) h = tt
+row_apart scratch of parameters above (Then item rest) h =
+    (dest_apart scratch of parameters above rest (dest_of item) h.0, row_apart scratch of parameters (named (dest_of item) above) rest h.1)
+row_apart scratch of parameters above (Either on on_yes on_no) h = (row_apart scratch of parameters above on_yes h.0, row_apart scratch of parameters above on_no h.1)
+row_apart scratch of parameters above (At_leaf leaf) h = tt
 
-choice_below : (taken needed : ℕ → Bool) (register : ℕ) → IsDefinitionChoice taken needed register → register < allowed
-choice_below taken needed register (First_choice least) = least.below
-choice_below taken needed register (Second_choice full least) = least.below
+choice_below : (scratch : ℕ) (taken needed : ℕ → Bool) (register : ℕ) → IsDefinitionChoice scratch taken needed register → register < scratch
+choice_below scratch taken needed register (First_choice least) = least.below
+choice_below scratch taken needed register (Second_choice full least) = least.below
 
-row_allowed : (of : ℕ → Option ℕ) (parameters above : List ℕ) (row : Row AutomatonLeaf) → RowByRule of parameters above row
-    → AllByRecursion (HasAllowed of) (names_written row)
-row_allowed of parameters above (Then item rest) h = by (dest_of item) h.0 (row_allowed of parameters (named (dest_of item) above) rest h.1)
+row_allowed : (scratch : ℕ) (of : ℕ → Option ℕ) (parameters above : List ℕ) (row : Row AutomatonLeaf) → RowByRule scratch of parameters above row
+    → AllByRecursion (HasAllowed scratch of) (names_written row)
+row_allowed scratch of parameters above (Then item rest) h = by (dest_of item) h.0 (row_allowed scratch of parameters (named (dest_of item) above) rest h.1)
   where
-    has : (dest : ℕ) (taken needed : ℕ → Bool) (o : Option ℕ) → of dest ≡ o → IsSomeAnd o (IsDefinitionChoice taken needed) → HasAllowed of dest
+    has : (dest : ℕ) (taken needed : ℕ → Bool) (o : Option ℕ) → of dest ≡ o → IsSomeAnd o (IsDefinitionChoice scratch taken needed) → HasAllowed scratch of dest
     has dest taken needed None is k = absurd k
-    has dest taken needed (Some register) is k = record { register = register; has = is; below = choice_below taken needed register k }
+    has dest taken needed (Some register) is k = record { register = register; has = is; below = choice_below scratch taken needed register k }
 
-    by : (found : Option ℕ) → DestByRule of parameters above rest found → AllByRecursion (HasAllowed of) (names_written rest)
-        → AllByRecursion (HasAllowed of) (cons_option found (names_written rest))
+    by : (found : Option ℕ) → DestByRule scratch of parameters above rest found → AllByRecursion (HasAllowed scratch of) (names_written rest)
+        → AllByRecursion (HasAllowed scratch of) (cons_option found (names_written rest))
     by None k later = later
     by (Some dest) k later = (
       has dest (λ q. one_has of parameters q || one_has of above q) (λ q. used_has (row_uses rest) of parameters q || one_has of above q)
           (of dest) refl k,
       later,
     )
-row_allowed of parameters above (Either on on_yes on_no) h =
-    subst (λ (names : List ℕ). AllByRecursion (HasAllowed of) names) (sym (filter_map-append dest_of (items_of on_yes) (items_of on_no)))
-    (all_both (HasAllowed of) (names_written on_yes) (names_written on_no) (row_allowed of parameters above on_yes h.0)
-    (row_allowed of parameters above on_no h.1))
-row_allowed of parameters above (At_leaf leaf) h = tt
+row_allowed scratch of parameters above (Either on on_yes on_no) h =
+    subst (λ (names : List ℕ). AllByRecursion (HasAllowed scratch of) names) (sym (filter_map-append dest_of (items_of on_yes) (items_of on_no)))
+    (all_both (HasAllowed scratch of) (names_written on_yes) (names_written on_no) (row_allowed scratch of parameters above on_yes h.0)
+    (row_allowed scratch of parameters above on_no h.1))
+row_allowed scratch of parameters above (At_leaf leaf) h = tt
 
 -- ---- parameters
 
 -- a parameter's register is allowed, and none before it has it
-pub record IsFresh (of : ℕ → Option ℕ) (before : List ℕ) (name : ℕ) : Type 0 where
-  pub allowed : HasAllowed of name
+pub record IsFresh (scratch : ℕ) (of : ℕ → Option ℕ) (before : List ℕ) (name : ℕ) : Type 0 where
+  pub allowed : HasAllowed scratch of name
   pub free : one_has of before allowed.register ≡ false
 
-choice_fresh : (taken : ℕ → Bool) (passed : Option ℕ) (register : ℕ) → ((r : ℕ) → passed ≡ Some r → r < allowed)
-    → IsParameterChoice taken passed register
-    → (register < allowed) × (taken register ≡ false)
-choice_fresh taken None register below h = (h.below, h.free)
-choice_fresh taken (Some passed) register below h = by (taken passed) refl h
+choice_fresh : (scratch : ℕ) (taken : ℕ → Bool) (passed : Option ℕ) (register : ℕ) → ((r : ℕ) → passed ≡ Some r → r < scratch)
+    → IsParameterChoice scratch taken passed register
+    → (register < scratch) × (taken register ≡ false)
+choice_fresh scratch taken None register below h = (h.below, h.free)
+choice_fresh scratch taken (Some passed) register below h = by (taken passed) refl h
   where
-    by : (b : Bool) → taken passed ≡ b → MatchBool b (IsLeast taken register) (register ≡ passed) → (register < allowed) × (taken register ≡ false)
+    by : (b : Bool) → taken passed ≡ b → MatchBool b (IsLeast scratch taken register) (register ≡ passed) → (register < scratch) × (taken register ≡ false)
     by true is k = (k.below, k.free)
-    by false is k = (subst (λ (r : ℕ). r < allowed) (sym k) (below passed refl), ap taken k ∙ is)
+    by false is k = (subst (λ (r : ℕ). r < scratch) (sym k) (below passed refl), ap taken k ∙ is)
 
-fresh_at : (of : ℕ → Option ℕ) (passed : List (Option ℕ)) (parameters : List ℕ) → PassedAll (λ r. r < allowed) passed
-    → ParametersByRule of passed parameters
-    → (at name : ℕ) → slice_get parameters at ≡ Some name → IsFresh of (take at parameters) name
-fresh_at of passed parameters below h at name here = by (of name) refl (h at name here)
+fresh_at : (scratch : ℕ) (of : ℕ → Option ℕ) (passed : List (Option ℕ)) (parameters : List ℕ) → PassedAll (λ r. r < scratch) passed
+    → ParametersByRule scratch of passed parameters
+    → (at name : ℕ) → slice_get parameters at ≡ Some name → IsFresh scratch of (take at parameters) name
+fresh_at scratch of passed parameters below h at name here = by (of name) refl (h at name here)
   where
-    by : (o : Option ℕ) → of name ≡ o → IsSomeAnd o (IsParameterChoice (one_has of (take at parameters)) (passed_at (slice_get passed at)))
-        → IsFresh of (take at parameters) name
+    by : (o : Option ℕ) → of name ≡ o → IsSomeAnd o (IsParameterChoice scratch (one_has of (take at parameters)) (passed_at (slice_get passed at)))
+        → IsFresh scratch of (take at parameters) name
     by None is k = absurd k
     by (Some register) is k =
-        let it = choice_fresh (one_has of (take at parameters)) (passed_at (slice_get passed at)) register (below at) k in
+        let it = choice_fresh scratch (one_has of (take at parameters)) (passed_at (slice_get passed at)) register (below at) k in
         record { allowed = record { register = register; has = is; below = it.0 }; free = it.1 }
 
 pub all_of_each : (P : ℕ → Type 0) (xs : List ℕ) → ((at x : ℕ) → slice_get xs at ≡ Some x → P x) → AllByRecursion P xs
@@ -161,15 +161,15 @@ one_has_front of (y ∷ front) x r h =
     ((λ i. parts.0 i || rest.0 i), rest.1)
 
 -- each differs from all before it; so do all from each other
-pub fresh_differ : (of : ℕ → Option ℕ) (xs : List ℕ) → ((at x : ℕ) → slice_get xs at ≡ Some x → IsFresh of (take at xs) x) → AllDiffer of xs
-fresh_differ of [] h = tt
-fresh_differ of (x ∷ xs) h = (
+pub fresh_differ : (scratch : ℕ) (of : ℕ → Option ℕ) (xs : List ℕ) → ((at x : ℕ) → slice_get xs at ≡ Some x → IsFresh scratch of (take at xs) x) → AllDiffer of xs
+fresh_differ scratch of [] h = tt
+fresh_differ scratch of (x ∷ xs) h = (
   all_of_each (Differ of x) xs (λ at y e r one other. clash at y r one other (h (suc at) y e)),
-  fresh_differ of xs
+  fresh_differ scratch of xs
       (λ at y e. later at y (h (suc at) y e)),
 )
   where
-    clash : (at y r : ℕ) → of x ≡ Some r → of y ≡ Some r → IsFresh of (x ∷ take at xs) y → ⊥
+    clash : (at y r : ℕ) → of x ≡ Some r → of y ≡ Some r → IsFresh scratch of (x ∷ take at xs) y → ⊥
     clash at y r one other fresh =
         let same : r ≡ fresh.allowed.register = let both : Some r ≡ Some fresh.allowed.register = sym other ∙ fresh.allowed.has in (cc) in
         let parts = or_false (is_register fresh.allowed.register (of x)) (one_has of (take at xs) fresh.allowed.register) fresh.free in
@@ -177,7 +177,7 @@ fresh_differ of (x ∷ xs) h = (
         ap (is_register fresh.allowed.register) one ∙ ap (λ (q : ℕ). nat_eq fresh.allowed.register q) same ∙ itself fresh.allowed.register in
         absurd (cc)
 
-    later : (at y : ℕ) → IsFresh of (x ∷ take at xs) y → IsFresh of (take at xs) y
+    later : (at y : ℕ) → IsFresh scratch of (x ∷ take at xs) y → IsFresh scratch of (take at xs) y
     later at y fresh = record {
       allowed = fresh.allowed;
       free = (or_false (is_register fresh.allowed.register (of x)) (one_has of (take at xs) fresh.allowed.register) fresh.free).1;
@@ -202,10 +202,10 @@ variables_differ of (x ∷ xs) once h = (differ x xs h.0 once.0 h.1, variables_d
       differ y ys is apart.1 each.1,
     )
 
-variables_allowed : (of : ℕ → Option ℕ) (xs : List ℕ) → AllByRecursion (λ x. x < 96) xs → AllByRecursion (λ x. of x ≡ Some x) xs
-    → AllByRecursion (HasAllowed of) xs
-variables_allowed of [] below h = tt
-variables_allowed of (x ∷ xs) below h = (record { register = x; has = h.0; below = omega (arith, below.0) }, variables_allowed of xs below.1 h.1)
+variables_allowed : (scratch : ℕ) (of : ℕ → Option ℕ) (xs : List ℕ) → 96 ≤ scratch → AllByRecursion (λ x. x < 96) xs → AllByRecursion (λ x. of x ≡ Some x) xs
+    → AllByRecursion (HasAllowed scratch of) xs
+variables_allowed scratch of [] enough below h = tt
+variables_allowed scratch of (x ∷ xs) enough below h = (record { register = x; has = h.0; below = omega (arith, below.0) }, variables_allowed scratch of xs enough below.1 h.1)
 
 distinct_front : (xs ys : List ℕ) → IsDistinct nat_eq (xs ++ ys) → IsDistinct nat_eq xs
 unfolding IsDistinct
@@ -227,39 +227,39 @@ all_in P (y ∷ xs) x h e = by (nat_eq x y) refl (all_in P xs x h.1) e
     by false is later e = later e
 
 -- the registers of a state are allowed, where those that it is passed are
-state_apart : (states : List AutomatonState) (number : ℕ) (passed : List (Option ℕ)) (of : ℕ → Option ℕ) (state : AutomatonState)
-    → IsDistinct nat_eq (state_names state)
-    → (number ≡ 0 → AllByRecursion (λ variable. variable < 96) state.parameters) → PassedAll (λ r. r < allowed) passed
-    → StateByRule number passed of state → IsApart of state
-state_apart states number passed of state once variables below h =
+state_apart : (scratch : ℕ) (states : List AutomatonState) (number : ℕ) (passed : List (Option ℕ)) (of : ℕ → Option ℕ) (state : AutomatonState)
+    → IsDistinct nat_eq (state_names state) → 96 ≤ scratch
+    → (number ≡ 0 → AllByRecursion (λ variable. variable < 96) state.parameters) → PassedAll (λ r. r < scratch) passed
+    → StateByRule scratch number passed of state → IsApart scratch of state
+state_apart scratch states number passed of state once enough variables below h =
     let given = parameters_apart number (variables) h.parameters in
     record {
       parameters = given.0;
-      row = row_apart of state.parameters [] state.row h.row;
-      allowed = all_both (HasAllowed of) state.parameters (names_written state.row) given.1 (row_allowed of state.parameters [] state.row h.row);
+      row = row_apart scratch of state.parameters [] state.row h.row;
+      allowed = all_both (HasAllowed scratch of) state.parameters (names_written state.row) given.1 (row_allowed scratch of state.parameters [] state.row h.row);
     }
   where
-    parameters_apart : (n : ℕ) → (n ≡ 0 → AllByRecursion (λ variable. variable < 96) state.parameters) → Parameters n of passed state.parameters
-        → AllDiffer of state.parameters × AllByRecursion (HasAllowed of) state.parameters
+    parameters_apart : (n : ℕ) → (n ≡ 0 → AllByRecursion (λ variable. variable < 96) state.parameters) → Parameters scratch n of passed state.parameters
+        → AllDiffer of state.parameters × AllByRecursion (HasAllowed scratch of) state.parameters
     parameters_apart zero small k = (
       variables_differ of state.parameters
           (distinct_front state.parameters (names_written state.row) once) k,
-      variables_allowed of state.parameters (small refl) k,
+      variables_allowed scratch of state.parameters enough (small refl) k,
     )
     parameters_apart (suc n) small k = (
-      fresh_differ of state.parameters (fresh_at of passed state.parameters below k),
-      all_of_each (HasAllowed of) state.parameters (λ at x e. (fresh_at of passed state.parameters below k at x e).allowed),
+      fresh_differ scratch of state.parameters (fresh_at scratch of passed state.parameters below k),
+      all_of_each (HasAllowed scratch of) state.parameters (λ at x e. (fresh_at scratch of passed state.parameters below k at x e).allowed),
     )
 
-held_of : (of : ℕ → Option ℕ) (state : AutomatonState) → IsApart of state → ((name : ℕ) → is_in name (state_names state) ≡ false → of name ≡ None)
-    → HeldAll (λ r. r < allowed) of
-held_of of state apart others name r e = by (is_in name (state_names state)) refl
+held_of : (scratch : ℕ) (of : ℕ → Option ℕ) (state : AutomatonState) → IsApart scratch of state → ((name : ℕ) → is_in name (state_names state) ≡ false → of name ≡ None)
+    → HeldAll (λ r. r < scratch) of
+held_of scratch of state apart others name r e = by (is_in name (state_names state)) refl
   where
-    by : (b : Bool) → is_in name (state_names state) ≡ b → r < allowed
+    by : (b : Bool) → is_in name (state_names state) ≡ b → r < scratch
     by true is =
-        let has = all_in (HasAllowed of) (state_names state) name apart.allowed is in
+        let has = all_in (HasAllowed scratch of) (state_names state) name apart.allowed is in
         let both : Some r ≡ Some has.register = sym e ∙ has.has in
-        let same : r ≡ has.register = (cc) in subst (λ (q : ℕ). q < allowed) (sym same) has.below
+        let same : r ≡ has.register = (cc) in subst (λ (q : ℕ). q < scratch) (sym same) has.below
     by false is = let none : of name ≡ None = others name is in absurd (cc)
 
 pub short : {X : Type 0} (xs : List X) (n : ℕ) → length (take n xs) ≤ n
@@ -272,37 +272,49 @@ past [] at e = omega arith
 past (state ∷ states) zero e = absurd (cc)
 past (state ∷ states) (suc at) e = omega (arith, past states at e)
 
-module _ (states : List AutomatonState) (R : ℕ → ℕ → Option ℕ) (kept : IsAutomaton states) (begins : BeginsWithVariables states)
-    (given : IsAssigned states R) where
-  passed_below : (number : ℕ) → ((at : ℕ) → at < number → HeldAll (λ r. r < allowed) (R at))
-      → PassedAll (λ r. r < allowed) (passed_to states R number)
+-- variables have registers below scratch
+scratch_enough : (states : List AutomatonState) (scratch : ℕ) → IsScratch states scratch → 96 ≤ scratch
+scratch_enough states scratch (Last_of_few is low) = omega (arith, is)
+scratch_enough states scratch (Last_of_most is high) = omega (arith, is)
+
+module _ (states : List AutomatonState) (registers : Registers) (kept : IsAutomaton states) (begins : BeginsWithVariables states)
+    (given : IsAssigned states registers) where
+  abbrev scratch : ℕ
+  scratch = registers.scratch
+
+  abbrev R : ℕ → ℕ → Option ℕ
+  R = registers.of
+
+  passed_below : (number : ℕ) → ((at : ℕ) → at < number → HeldAll (λ r. r < scratch) (R at))
+      → PassedAll (λ r. r < scratch) (passed_to states R number)
   passed_below number before = by (states_pass R number 0 (take number states))
-      (states_passed (λ r. r < allowed) R number 0 (take number states) (λ at h. before at (omega (arith, short states number))))
+      (states_passed (λ r. r < scratch) R number 0 (take number states) (λ at h. before at (omega (arith, short states number))))
     where
-      by : (o : Option (List (Option ℕ))) → ((passed : List (Option ℕ)) → o ≡ Some passed → PassedAll (λ r. r < allowed) passed)
-          → PassedAll (λ r. r < allowed) (unwrap_or o [])
+      by : (o : Option (List (Option ℕ))) → ((passed : List (Option ℕ)) → o ≡ Some passed → PassedAll (λ r. r < scratch) passed)
+          → PassedAll (λ r. r < scratch) (unwrap_or o [])
       by (Some passed) h = h passed refl
       by None h = λ at r e. absurd (cc)
 
-  apart_after : (number : ℕ) → ((at : ℕ) → at < number → HeldAll (λ r. r < allowed) (R at)) → (state : AutomatonState)
-      → slice_get states number ≡ Some state → IsApart (R number) state
+  apart_after : (number : ℕ) → ((at : ℕ) → at < number → HeldAll (λ r. r < scratch) (R at)) → (state : AutomatonState)
+      → slice_get states number ≡ Some state → IsApart scratch (R number) state
   apart_after number before state here =
-      state_apart states number (passed_to states R number) (R number) state (all_at (IsStateAmong states) states number state kept.each here).once
-      (λ first. begins.below state (ap (slice_get states) (sym first) ∙ here)) (passed_below number before) (given.each number state here)
+      state_apart scratch states number (passed_to states R number) (R number) state (all_at (IsStateAmong states) states number state kept.each here).once
+      (scratch_enough states scratch given.left)
+      (λ first. begins.below state (ap (slice_get states) (sym first) ∙ here)) (passed_below number before) (given.rule.each number state here)
 
-  held_before : (n at : ℕ) → at < n → HeldAll (λ r. r < allowed) (R at)
+  held_before : (n at : ℕ) → at < n → HeldAll (λ r. r < scratch) (R at)
   held_before zero at h = absurd (omega arith)
   held_before (suc n) at h = by (slice_get states at) refl (λ k less. held_before n k (omega arith))
     where
-      by : (o : Option AutomatonState) → slice_get states at ≡ o → ((k : ℕ) → k < at → HeldAll (λ r. r < allowed) (R k))
-          → HeldAll (λ r. r < allowed) (R at)
-      by (Some state) here before = held_of (R at) state (apart_after at before state here) (given.each at state here).others
+      by : (o : Option AutomatonState) → slice_get states at ≡ o → ((k : ℕ) → k < at → HeldAll (λ r. r < scratch) (R k))
+          → HeldAll (λ r. r < scratch) (R at)
+      by (Some state) here before = held_of scratch (R at) state (apart_after at before state here) (given.rule.each at state here).others
       by None out before = λ name r e.
-          let none : R at name ≡ None = given.none at name (past states at out) in absurd (cc)
+          let none : R at name ≡ None = given.rule.none at name (past states at out) in absurd (cc)
 
 pub live_apart : LiveApart
-live_apart states R kept begins given number state here = apart_after states R kept begins given number
-    (held_before states R kept begins given number) state here
+live_apart states registers kept begins given number state here = apart_after states registers kept begins given number
+    (held_before states registers kept begins given number) state here
 
 pub variables_stay : VariablesStay
-variables_stay states R given state here = (given.each 0 state here).parameters
+variables_stay states registers given state here = (given.rule.each 0 state here).parameters

@@ -9,7 +9,6 @@ use Rattle.pc_window.specs.Rebasing.{is_in}
 use Rattle.pc_automaton.specs.declared.automaton.AutomatonLeaf.{AutomatonLeaf}
 use Rattle.pc_automaton.specs.declared.automaton.AutomatonLeaf.TheVariants.{Out}
 use Rattle.pc_assign.specs.Uses.{leaf_uses}
-use Rattle.pc_assign.specs.Pressure.{allowed}
 use Rattle.pc_assign.specs.Assigned.{passed_at}
 use Rattle.pc_assign.specs.declared.register_set.RegisterSet.{RegisterSet}
 use Rattle.pc_assign.specs.models.Choosing.{member, AreMost, IsParameterTaken, AreParameters, used_holds}
@@ -88,10 +87,10 @@ used_taken used names held i j x h as_many is =
 -- ---- parameters
 
 -- the parameters so far have registers
-pub record SoFar (passed : List (Option ℕ)) (held : List ℕ) (taken : RegisterSet) (at : ℕ) : Type 0 where
+pub record SoFar (scratch : ℕ) (passed : List (Option ℕ)) (held : List ℕ) (taken : RegisterSet) (at : ℕ) : Type 0 where
   pub count : length held ≡ at
-  pub most : AreMost held
-  pub chosen : AreParameters passed held
+  pub most : AreMost scratch held
+  pub chosen : AreParameters scratch passed held
   pub set : (register : ℕ) → member taken register ≡ is_in register held
 
 pub length_more : (xs : List ℕ) (r : ℕ) → length (xs ++ r ∷ []) ≡ suc (length xs)
@@ -99,22 +98,22 @@ length_more [] r = refl
 length_more (x ∷ xs) r = ap suc (length_more xs r)
 
 -- none has, to begin with
-pub none_so_far : (passed : List (Option ℕ)) (taken : RegisterSet) → ((register : ℕ) → member taken register ≡ false) → SoFar passed [] taken 0
-none_so_far passed taken none = record { count = refl; most = λ at r e. absurd (cc); chosen = λ at r e. absurd (cc); set = none }
+pub none_so_far : (scratch : ℕ) (passed : List (Option ℕ)) (taken : RegisterSet) → ((register : ℕ) → member taken register ≡ false) → SoFar scratch passed [] taken 0
+none_so_far scratch passed taken none = record { count = refl; most = λ at r e. absurd (cc); chosen = λ at r e. absurd (cc); set = none }
 
 -- and one more
-pub one_so_far : (passed : List (Option ℕ)) (held : List ℕ) (taken later : RegisterSet) (at next r : ℕ) → SoFar passed held taken at → next ≡ at + 1
-    → IsParameterTaken (member taken) (passed_at (slice_get passed at)) r → r ≤ allowed
-    → ((x : ℕ) → member later x ≡ (nat_eq x r || member taken x)) → SoFar passed (held ++ r ∷ []) later next
-one_so_far passed held taken later at next r h is takes few set = record {
+pub one_so_far : (scratch : ℕ) (passed : List (Option ℕ)) (held : List ℕ) (taken later : RegisterSet) (at next r : ℕ) → SoFar scratch passed held taken at → next ≡ at + 1
+    → IsParameterTaken scratch (member taken) (passed_at (slice_get passed at)) r → r ≤ scratch
+    → ((x : ℕ) → member later x ≡ (nat_eq x r || member taken x)) → SoFar scratch passed (held ++ r ∷ []) later next
+one_so_far scratch passed held taken later at next r h is takes few set = record {
   count = length_more held r ∙ omega (arith, is, h.count);
   most = λ k x e. elim (get_more held r k x e) [
     | inl old ↦ h.most k x old.1
-    | inr new ↦ subst (λ (y : ℕ). y ≤ allowed) (sym new.1) few
+    | inr new ↦ subst (λ (y : ℕ). y ≤ scratch) (sym new.1) few
   ];
   chosen = λ k x e. elim (get_more held r k x e) [
     | inl old ↦
-        subst (λ (front : List ℕ). IsParameterTaken (λ other. is_in other front) (passed_at (slice_get passed k)) x)
+        subst (λ (front : List ℕ). IsParameterTaken scratch (λ other. is_in other front) (passed_at (slice_get passed k)) x)
         (sym (take_front held r k (omega (arith, old.0)))) (h.chosen k x old.1)
     | inr new ↦
         let here : k ≡ at = new.0 ∙ h.count in
@@ -122,9 +121,9 @@ one_so_far passed held taken later at next r h is takes few set = record {
         ∙ take_whole held in
         let same : (λ (other : ℕ). is_in other (take k (held ++ r ∷ []))) ≡ member taken = λ i other.
         (ap (is_in other) front ∙ sym (h.set other)) i in
-        subst (λ (these : ℕ → Bool). IsParameterTaken these (passed_at (slice_get passed k)) x) (sym same)
-        (subst (λ (n : ℕ). IsParameterTaken (member taken) (passed_at (slice_get passed n)) x) (sym here)
-        (subst (λ (y : ℕ). IsParameterTaken (member taken) (passed_at (slice_get passed at)) y) (sym new.1) takes))
+        subst (λ (these : ℕ → Bool). IsParameterTaken scratch these (passed_at (slice_get passed k)) x) (sym same)
+        (subst (λ (n : ℕ). IsParameterTaken scratch (member taken) (passed_at (slice_get passed n)) x) (sym here)
+        (subst (λ (y : ℕ). IsParameterTaken scratch (member taken) (passed_at (slice_get passed at)) y) (sym new.1) takes))
   ];
   set = λ x. set x ∙ ap (λ (b : Bool). nat_eq x r || b) (h.set x) ∙ sym (in_more x r held);
 }

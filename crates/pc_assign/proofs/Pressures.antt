@@ -8,7 +8,7 @@ use Rattle.pc_word.specs.Items.{dest_of}
 use Rattle.pc_automaton.specs.declared.automaton.AutomatonLeaf.{AutomatonLeaf}
 use Rattle.pc_assign.specs.Uses.{row_uses}
 use Rattle.pc_automaton.specs.Automaton.{AutomatonState}
-use Rattle.pc_assign.specs.Pressure.{allowed, definitions_with, item_pressure, row_pressure, pressure_of}
+use Rattle.pc_assign.specs.Pressure.{definitions_with, item_pressure, row_pressure, pressure_of}
 use Rattle.pc_assign.specs.models.Choosing.{definitions_in}
 
 module _ (parameters : List ℕ) (above : ℕ) where
@@ -59,7 +59,8 @@ row_pressure-most parameters above (Either on on_yes on_no) =
 row_pressure-most parameters above (At_leaf leaf) = omega arith
 
 -- a state with no more names than there are registers has a low pressure
-pub few_low : (state : AutomatonState) (names : ℕ) → definitions_in state.row + length state.parameters ≡ names → names ≤ allowed → pressure_of state ≤ allowed
-few_low state names are few = let most = row_pressure-most state.parameters 0 state.row in omega (arith, are, few, most)
+pub few_low : (scratch : ℕ) (state : AutomatonState) (names : ℕ) → definitions_in state.row + length state.parameters ≡ names → names ≤ scratch
+    → pressure_of state ≤ scratch
+few_low scratch state names are few = let most = row_pressure-most state.parameters 0 state.row in omega (arith, are, few, most)
 
 pub ruleset pressures = (defining_pressure, other_pressure, definitions_some, definitions_none)

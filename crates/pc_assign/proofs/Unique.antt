@@ -16,14 +16,15 @@ use Rattle.pc_automaton.specs.Automaton.{AutomatonState, names_written}
 use Rattle.pc_assign.specs.Uses.{row_uses}
 use Rattle.pc_assign.specs.Assigned.{state_names, is_register, one_has, used_has, IsLeast, IsParameterChoice, passed_at, ParametersByRule, row_passes}
 use Rattle.pc_assign.specs.Assigned.{states_pass, passed_to, Parameters, IsDefinitionChoice, First_choice, Second_choice, DestByRule, RowByRule, StateByRule}
-use Rattle.pc_assign.specs.Assigned.{IsAssigned}
+use Rattle.pc_assign.specs.Assigned.{AreByRule, IsAssigned}
+use Rattle.pc_assign.specs.Pressure.{few_scratch, LowBefore, IsFirstAbove, IsScratch, Last_of_few, Last_of_most}
 use Rattle.pc_assign.specs.Apart.{OnlyOne}
 use Rattle.pc_assign.proofs.Apartness.{all_in, all_of_each, short, past}
 
 -- ---- choices
 
-least_unique : (f : ℕ → Bool) (r s : ℕ) → IsLeast f r → IsLeast f s → r ≡ s
-least_unique f r s h k = elim (decide_le s r) [
+least_unique : (scratch : ℕ) (f : ℕ → Bool) (r s : ℕ) → IsLeast scratch f r → IsLeast scratch f s → r ≡ s
+least_unique scratch f r s h k = elim (decide_le s r) [
   | inl up ↦ elim (decide_le r s) [
     | inl down ↦ omega arith
     | inr less ↦ let taken : f s ≡ true = h.least s less in let free : f s ≡ false = k.free in absurd (cc)
@@ -31,20 +32,20 @@ least_unique f r s h k = elim (decide_le s r) [
   | inr less ↦ let taken : f r ≡ true = k.least r less in let free : f r ≡ false = h.free in absurd (cc)
 ]
 
-choice_unique : (t n : ℕ → Bool) (r s : ℕ) → IsDefinitionChoice t n r → IsDefinitionChoice t n s → r ≡ s
-choice_unique t n r s (First_choice h) (First_choice k) = least_unique t r s h k
-choice_unique t n r s (First_choice h)
+choice_unique : (scratch : ℕ) (t n : ℕ → Bool) (r s : ℕ) → IsDefinitionChoice scratch t n r → IsDefinitionChoice scratch t n s → r ≡ s
+choice_unique scratch t n r s (First_choice h) (First_choice k) = least_unique scratch t r s h k
+choice_unique scratch t n r s (First_choice h)
     (Second_choice full k) = let taken : t r ≡ true = full r h.below in let free : t r ≡ false = h.free in absurd (cc)
-choice_unique t n r s (Second_choice full h)
+choice_unique scratch t n r s (Second_choice full h)
     (First_choice k) = let taken : t s ≡ true = full s k.below in let free : t s ≡ false = k.free in absurd (cc)
-choice_unique t n r s (Second_choice full h) (Second_choice also k) = least_unique n r s h k
+choice_unique scratch t n r s (Second_choice full h) (Second_choice also k) = least_unique scratch n r s h k
 
-parameter_unique : (taken : ℕ → Bool) (passed : Option ℕ) (r s : ℕ) → IsParameterChoice taken passed r → IsParameterChoice taken passed s → r ≡ s
-parameter_unique taken None r s h k = least_unique taken r s h k
-parameter_unique taken (Some passed) r s h k = by (taken passed) h k
+parameter_unique : (scratch : ℕ) (taken : ℕ → Bool) (passed : Option ℕ) (r s : ℕ) → IsParameterChoice scratch taken passed r → IsParameterChoice scratch taken passed s → r ≡ s
+parameter_unique scratch taken None r s h k = least_unique scratch taken r s h k
+parameter_unique scratch taken (Some passed) r s h k = by (taken passed) h k
   where
-    by : (b : Bool) → MatchBool b (IsLeast taken r) (r ≡ passed) → MatchBool b (IsLeast taken s) (s ≡ passed) → r ≡ s
-    by true h k = least_unique taken r s h k
+    by : (b : Bool) → MatchBool b (IsLeast scratch taken r) (r ≡ passed) → MatchBool b (IsLeast scratch taken s) (s ≡ passed) → r ≡ s
+    by true h k = least_unique scratch taken r s h k
     by false h k = h ∙ sym k
 
 some_unique : (P : ℕ → Type 0) (o p : Option ℕ) → ((r s : ℕ) → P r → P s → r ≡ s) → IsSomeAnd o P → IsSomeAnd p P → o ≡ p
@@ -54,7 +55,7 @@ some_unique P (Some r) (Some s) one h k = ap Some (one r s h k)
 
 -- ---- names on which two agree
 
-module _ (of other : ℕ → Option ℕ) where
+module _ (scratch : ℕ) (of other : ℕ → Option ℕ) where
   abbrev pub Agree : List ℕ → Type 0
   Agree names = AllByRecursion (λ name. of name ≡ other name) names
 
@@ -67,24 +68,24 @@ module _ (of other : ℕ → Option ℕ) where
   used_has_same used (x ∷ names) q h = (λ i. (used x && is_register q (h.0 i)) || used_has_same used names q h.1 i)
 
   dest_same : (parameters above : List ℕ) (rest : Row AutomatonLeaf) (dest : ℕ) → Agree parameters → Agree above
-      → DestByRule of parameters above rest (Some dest) → DestByRule other parameters above rest (Some dest) → of dest ≡ other dest
+      → DestByRule scratch of parameters above rest (Some dest) → DestByRule scratch other parameters above rest (Some dest) → of dest ≡ other dest
   dest_same parameters above rest dest a b h k =
-      let choice = IsDefinitionChoice (λ q. one_has of parameters q || one_has of above q)
+      let choice = IsDefinitionChoice scratch (λ q. one_has of parameters q || one_has of above q)
       (λ q. used_has (row_uses rest) of parameters q || one_has of above q) in
       some_unique choice (of dest) (other dest)
-      (choice_unique (λ q. one_has of parameters q || one_has of above q) (λ q. used_has (row_uses rest) of parameters q || one_has of above q)) h
-      (subst (λ (t : ℕ → Bool). IsSomeAnd (other dest) (IsDefinitionChoice t (λ q. used_has (row_uses rest) of parameters q || one_has of above q)))
+      (choice_unique scratch (λ q. one_has of parameters q || one_has of above q) (λ q. used_has (row_uses rest) of parameters q || one_has of above q)) h
+      (subst (λ (t : ℕ → Bool). IsSomeAnd (other dest) (IsDefinitionChoice scratch t (λ q. used_has (row_uses rest) of parameters q || one_has of above q)))
       (λ i q. sym (one_has_same parameters q a) i || sym (one_has_same above q b) i)
-      (subst (λ (n : ℕ → Bool). IsSomeAnd (other dest) (IsDefinitionChoice (λ q. one_has other parameters q || one_has other above q) n))
+      (subst (λ (n : ℕ → Bool). IsSomeAnd (other dest) (IsDefinitionChoice scratch (λ q. one_has other parameters q || one_has other above q) n))
       (λ i q. sym (used_has_same (row_uses rest) parameters q a) i || sym (one_has_same above q b) i) k))
 
-  row_same : (parameters above : List ℕ) (row : Row AutomatonLeaf) → Agree parameters → Agree above → RowByRule of parameters above row
-      → RowByRule other parameters above row
+  row_same : (parameters above : List ℕ) (row : Row AutomatonLeaf) → Agree parameters → Agree above → RowByRule scratch of parameters above row
+      → RowByRule scratch other parameters above row
       → Agree (names_written row)
   row_same parameters above (Then item rest) a b h k = by (dest_of item) h.0 k.0
       (λ more. row_same parameters (named (dest_of item) above) rest a more h.1 k.1)
     where
-      by : (found : Option ℕ) → DestByRule of parameters above rest found → DestByRule other parameters above rest found
+      by : (found : Option ℕ) → DestByRule scratch of parameters above rest found → DestByRule scratch other parameters above rest found
           → (Agree (named found above) → Agree (names_written rest)) → Agree (cons_option found (names_written rest))
       by None x y later = later b
       by (Some dest) x y later = let same = dest_same parameters above rest dest a b x y in (same, later (same, b))
@@ -101,16 +102,16 @@ module _ (of other : ℕ → Option ℕ) where
   take_get (y ∷ xs) (suc n) zero x e = (omega arith, e)
   take_get (y ∷ xs) (suc n) (suc at) x e = let more = take_get xs n at x e in (omega (arith, more.0), more.1)
 
-  parameters_same : (passed : List (Option ℕ)) (parameters : List ℕ) → ParametersByRule of passed parameters
-      → ParametersByRule other passed parameters
+  parameters_same : (passed : List (Option ℕ)) (parameters : List ℕ) → ParametersByRule scratch of passed parameters
+      → ParametersByRule scratch other passed parameters
       → (n at x : ℕ) → at < n → slice_get parameters at ≡ Some x → of x ≡ other x
   parameters_same passed parameters h k zero at x less here = absurd (omega arith)
   parameters_same passed parameters h k (suc n) at x less here =
       let before : Agree (take at parameters) = all_of_each (λ name. of name ≡ other name) (take at parameters)
       (λ i y e. let it = take_get parameters at i y e in parameters_same passed parameters h k n i y (omega (arith, it.0)) it.1) in
-      some_unique (IsParameterChoice (one_has of (take at parameters)) (passed_at (slice_get passed at))) (of x) (other x)
-      (parameter_unique (one_has of (take at parameters)) (passed_at (slice_get passed at))) (h at x here)
-      (subst (λ (t : ℕ → Bool). IsSomeAnd (other x) (IsParameterChoice t (passed_at (slice_get passed at))))
+      some_unique (IsParameterChoice scratch (one_has of (take at parameters)) (passed_at (slice_get passed at))) (of x) (other x)
+      (parameter_unique scratch (one_has of (take at parameters)) (passed_at (slice_get passed at))) (h at x here)
+      (subst (λ (t : ℕ → Bool). IsSomeAnd (other x) (IsParameterChoice scratch t (passed_at (slice_get passed at))))
       (λ i q. sym (one_has_same (take at parameters) q before) i) (k at x here))
 
   first_same : (xs : List ℕ) → AllByRecursion (λ x. of x ≡ Some x) xs → AllByRecursion (λ x. other x ≡ Some x) xs → Agree xs
@@ -122,16 +123,16 @@ module _ (of other : ℕ → Option ℕ) where
   inside (y ∷ xs) zero x e = omega arith
   inside (y ∷ xs) (suc at) x e = omega (arith, inside xs at x e)
 
-  all_parameters : (number : ℕ) (passed : List (Option ℕ)) (parameters : List ℕ) → Parameters number of passed parameters
-      → Parameters number other passed parameters → Agree parameters
+  all_parameters : (number : ℕ) (passed : List (Option ℕ)) (parameters : List ℕ) → Parameters scratch number of passed parameters
+      → Parameters scratch number other passed parameters → Agree parameters
   all_parameters zero passed parameters h k = first_same parameters h k
   all_parameters (suc n) passed parameters h k =
       all_of_each (λ name. of name ≡ other name) parameters
       (λ at x e. parameters_same passed parameters h k (length parameters) at x (inside parameters at x e) e)
 
   -- a state
-  state_same : (number : ℕ) (passed : List (Option ℕ)) (state : AutomatonState) → StateByRule number passed of state
-      → StateByRule number passed other state
+  state_same : (number : ℕ) (passed : List (Option ℕ)) (state : AutomatonState) → StateByRule scratch number passed of state
+      → StateByRule scratch number passed other state
       → (name : ℕ) → of name ≡ other name
   state_same number passed state h k name = by (is_in name (state_names state)) refl
     where
@@ -145,7 +146,27 @@ module _ (of other : ℕ → Option ℕ) where
 
 -- ---- all states
 
-module _ (states : List AutomatonState) (R S : ℕ → ℕ → Option ℕ) (given : IsAssigned states R) (also : IsAssigned states S) where
+-- no state's pressure is above few registers, or that of a first one is
+not_both : {number live : ℕ} (states : List AutomatonState) → LowBefore few_scratch states (length states) → IsFirstAbove few_scratch states number live → ⊥
+not_both {number} states low first =
+    let small = low number first.state (within states number first.state first.there) first.there in
+    let live = first.is_live in
+    let high = first.high in
+    omega (arith, small, live, high)
+  where
+    within : (xs : List AutomatonState) (at : ℕ) (x : AutomatonState) → slice_get xs at ≡ Some x → at < length xs
+    within [] at x e = absurd (cc)
+    within (y ∷ xs) zero x e = omega arith
+    within (y ∷ xs) (suc at) x e = omega (arith, within xs at x e)
+
+-- what is left for moves is the same
+scratch_unique : (states : List AutomatonState) (scratch other : ℕ) → IsScratch states scratch → IsScratch states other → scratch ≡ other
+scratch_unique states scratch other (Last_of_few is low) (Last_of_few also too) = is ∙ sym also
+scratch_unique states scratch other (Last_of_few is low) (Last_of_most also first) = absurd (not_both states low first)
+scratch_unique states scratch other (Last_of_most is first) (Last_of_few also low) = absurd (not_both states low first)
+scratch_unique states scratch other (Last_of_most is first) (Last_of_most also other_first) = is ∙ sym also
+
+module _ (states : List AutomatonState) (scratch : ℕ) (R S : ℕ → ℕ → Option ℕ) (given : AreByRule scratch states R) (also : AreByRule scratch states S) where
   passes_same : (to from : ℕ) (xs : List AutomatonState) → ((number : ℕ) → number < from + length xs → R number ≡ S number)
       → states_pass R to from xs ≡ states_pass S to from xs
   passes_same to from [] h = refl
@@ -165,8 +186,12 @@ module _ (states : List AutomatonState) (R S : ℕ → ℕ → Option ℕ) (give
           let passed : passed_to states R number ≡ passed_to states S number =
           ap (λ (o : Option (List (Option ℕ))). unwrap_or o [])
           (passes_same number 0 (take number states) (λ k small. λ i x. before k (omega (arith, short states number)) x i)) in
-          state_same (R number) (S number) number (passed_to states R number) state (given.each number state here)
-          (subst (λ (xs : List (Option ℕ)). StateByRule number xs (S number) state) (sym passed) (also.each number state here)) name
+          state_same scratch (R number) (S number) number (passed_to states R number) state (given.each number state here)
+          (subst (λ (xs : List (Option ℕ)). StateByRule scratch number xs (S number) state) (sym passed) (also.each number state here)) name
 
 pub only_one : OnlyOne
-only_one states R S given also number name = same_before states R S given also (suc number) number (omega arith) name
+only_one states registers others given also =
+    let same = scratch_unique states registers.scratch others.scratch given.left also.left in
+    let alike = subst (λ (scratch : ℕ). AreByRule scratch states others.of) (sym same) also.rule in
+    let of = same_before states registers.scratch registers.of others.of given.rule alike in
+    λ i. record { of = λ number name. of (suc number) number (omega arith) name i; scratch = same i }

@@ -1,11 +1,15 @@
 -- Sets of used parameters, by their places.
-use Rattle.std.proofs.Common.{◌≡◌, ℕ, zero, suc, ◌+◌, ◌<◌, Bool, true, false, cond, ◌&&◌, ◌||◌, List, [], ◌∷◌, length, map, take, refl, sym, ◌∙◌}
+use Rattle.std.proofs.Common.{◌≡◌, ℕ, zero, suc, ◌+◌, ◌-◌, ◌^◌, ◌<◌, ◌≤◌, inl, inr, Bool, true, false, cond, ◌&&◌, ◌||◌, List, [], ◌∷◌, length, map, take, drop, refl, sym, ◌∙◌}
 use Rattle.std.proofs.Common.{ap, subst, arith, get_or}
 use Rattle.std.specs.Prelude.{nat_eq, count_by}
 use Rattle.std.specs.Int.{bit_at}
 use Rattle.std.specs.Int.RustNames.{count_ones}
 use Rattle.std.proofs.lemmas.Bool.Decides.{nat_tests}
-use Rattle.std.proofs.lemmas.Nat.Bits.{bit_at-lt, same_from_bits}
+use Rattle.std.proofs.lemmas.Nat.Bits.{bit_at-lt, bit_at_above, same_from_bits}
+use Rattle.std.proofs.lemmas.List.Sums.{sum_by-take-drop}
+use Rattle.pc_machine.specs.Registers.{few_registers}
+use Rattle.pc_word.proofs.Truth.{decide_le}
+use Rattle.pc_assign.proofs.Sets.{member_low, member_high}
 use Rattle.std.proofs.lemmas.Simd.{bit_mask_l, ones-mask_l}
 use Rattle.pc_word.specs.declared.item.Item.{Item}
 use Rattle.pc_word.specs.declared.item.Operand.{Operand}
@@ -13,7 +17,7 @@ use Rattle.pc_word.specs.Row.{Row, Then, Either, At_leaf}
 use Rattle.pc_automaton.specs.declared.automaton.AutomatonLeaf.{AutomatonLeaf}
 use Rattle.pc_assign.specs.Uses.{leaf_uses, row_uses}
 use Rattle.pc_assign.specs.declared.register_set.RegisterSet.{RegisterSet}
-use Rattle.pc_assign.specs.models.Choosing.{member, is_used_at, IsUsedSet}
+use Rattle.pc_assign.specs.models.Choosing.{bit_in, member, is_used_at, IsUsedSet}
 use lib.Lanes.{mask_l}
 
 -- ---- counts
@@ -30,14 +34,46 @@ used_at_is used [] at = refl
 used_at_is used (name ∷ names) zero = refl
 used_at_is used (name ∷ names) (suc at) = used_at_is used names at
 
--- as many are in the set as are used
-pub used_count : (used : ℕ → Bool) (names : List ℕ) (set : RegisterSet) (count : ℕ) → IsUsedSet used names set → count ≡ count_ones set.bits
-    → count ≡ count_by used names
-used_count used names set count is counted =
-    let same : set.bits ≡ mask_l (map used names) = same_from_bits set.bits (mask_l (map used names)) (λ at.
-    bit_of (bit_at set.bits at) (get_or (map used names) at false) (bit_at-lt set.bits at) (is at ∙ used_at_is used names at)
+-- at a place of the first ones, or of the others
+used_front : (used : ℕ → Bool) (names : List ℕ) (n at : ℕ) → at < n → is_used_at used names at ≡ is_used_at used (take n names) at
+used_front used names zero at h = absurd (omega arith)
+used_front used [] (suc n) at h = refl
+used_front used (name ∷ names) (suc n) zero h = refl
+used_front used (name ∷ names) (suc n) (suc at) h = used_front used names n at (omega arith)
+
+used_past : (used : ℕ → Bool) (names : List ℕ) (n at : ℕ) → n ≤ at → is_used_at used (take n names) at ≡ false
+used_past used names zero at h = refl
+used_past used [] (suc n) at h = refl
+used_past used (name ∷ names) (suc n) zero h = absurd (omega arith)
+used_past used (name ∷ names) (suc n) (suc at) h = used_past used names n at (omega arith)
+
+used_back : (used : ℕ → Bool) (names : List ℕ) (n at : ℕ) → is_used_at used names (n + at) ≡ is_used_at used (drop n names) at
+used_back used names zero at = ap (is_used_at used names) (omega arith)
+used_back used [] (suc n) at = refl
+used_back used (name ∷ names) (suc n) at = let one : suc n + at ≡ suc (n + at) = omega arith in ap (is_used_at used (name ∷ names)) one ∙ used_back used names n at
+
+-- as many bits are 1 as are used
+bits_counted : (used : ℕ → Bool) (names : List ℕ) (bits : ℕ) → ((at : ℕ) → bit_in bits at ≡ is_used_at used names at) → count_ones bits ≡ count_by used names
+bits_counted used names bits is =
+    let same : bits ≡ mask_l (map used names) = same_from_bits bits (mask_l (map used names)) (λ at.
+    bit_of (bit_at bits at) (get_or (map used names) at false) (bit_at-lt bits at) (is at ∙ used_at_is used names at)
     ∙ sym (bit_mask_l (map used names) at)) in
-    counted ∙ ap count_ones same ∙ ones-mask_l used names
+    ap count_ones same ∙ ones-mask_l used names
+
+-- as many are in the set as are used
+pub used_count : (used : ℕ → Bool) (names : List ℕ) (set : RegisterSet) (count : ℕ) → IsUsedSet used names set
+    → count ≡ count_ones set.low + count_ones set.high → set.low < 2 ^ 128 → count ≡ count_by used names
+used_count used names set count is counted small =
+    let low = bits_counted used (take few_registers names) set.low (λ at. elim (decide_le few_registers at) [
+      | inl above ↦ ap (λ (b : ℕ). nat_eq b 1) (bit_at_above set.low 128 at small above) ∙ sym (used_past used names few_registers at above)
+      | inr below ↦ sym (member_low set at below) ∙ is at ∙ used_front used names few_registers at below
+    ]) in
+    let high = bits_counted used (drop few_registers names) set.high (λ at.
+    let place : few_registers + at - few_registers ≡ at = omega arith in
+    ap (bit_in set.high) (sym place) ∙ sym (member_high set (few_registers + at) (omega arith)) ∙ is (few_registers + at)
+    ∙ used_back used names few_registers at) in
+    let whole = sum_by-take-drop (λ name. cond (used name) 1 0) names few_registers in
+    omega (arith, counted, low, high, whole)
 
 -- ---- one name after the other
 

@@ -7,8 +7,7 @@ use Rattle.pc_window.specs.Names.{named}
 use Rattle.pc_automaton.specs.declared.automaton.AutomatonLeaf.{AutomatonLeaf}
 use Rattle.pc_automaton.specs.Automaton.{AutomatonState, IsAutomaton}
 use Rattle.pc_assign.specs.Uses.{row_uses}
-use Rattle.pc_assign.specs.Pressure.{allowed}
-use Rattle.pc_assign.specs.Assigned.{state_names, IsAssigned, BeginsWithVariables}
+use Rattle.pc_assign.specs.Assigned.{Registers, state_names, IsAssigned, BeginsWithVariables}
 
 -- two names share no register
 abbrev pub Differ : (ℕ → Option ℕ) → ℕ → ℕ → Type 0
@@ -32,32 +31,30 @@ KeepsApart of parameters above (Then item rest) =
 KeepsApart of parameters above (Either on on_yes on_no) = KeepsApart of parameters above on_yes × KeepsApart of parameters above on_no
 KeepsApart of parameters above (At_leaf leaf) = Unit {0}
 
--- a name has an allowed register
-pub record HasAllowed (of : ℕ → Option ℕ) (name : ℕ) : Type 0 where
+-- a name has a register below scratch
+pub record HasAllowed (scratch : ℕ) (of : ℕ → Option ℕ) (name : ℕ) : Type 0 where
   pub register : ℕ
   pub has : of name ≡ Some register
-  pub below : register < allowed
+  pub below : register < scratch
 
--- in a state names that are live together have different registers, and each name has one that is allowed
-pub record IsApart (of : ℕ → Option ℕ) (state : AutomatonState) : Type 0 where
+-- in a state names that are live together have different registers, and each name has one below scratch
+pub record IsApart (scratch : ℕ) (of : ℕ → Option ℕ) (state : AutomatonState) : Type 0 where
   pub parameters : AllDiffer of state.parameters
   pub row : KeepsApart of state.parameters [] state.row
-  pub allowed : AllByRecursion (HasAllowed of) (state_names state)
+  pub allowed : AllByRecursion (HasAllowed scratch of) (state_names state)
 
 -- so it is in each state
 abbrev pub LiveApart : Type 0
 LiveApart =
-    (states : List AutomatonState) (registers : ℕ → ℕ → Option ℕ) → IsAutomaton states → BeginsWithVariables states → IsAssigned states registers
-    → (number : ℕ) (state : AutomatonState) → slice_get states number ≡ Some state → IsApart (registers number) state
+    (states : List AutomatonState) (registers : Registers) → IsAutomaton states → BeginsWithVariables states → IsAssigned states registers
+    → (number : ℕ) (state : AutomatonState) → slice_get states number ≡ Some state → IsApart registers.scratch (registers.of number) state
 
 -- and parameter v of the first state is in register v
 abbrev pub VariablesStay : Type 0
 VariablesStay =
-    (states : List AutomatonState) (registers : ℕ → ℕ → Option ℕ) → IsAssigned states registers
-    → (state : AutomatonState) → slice_get states 0 ≡ Some state → AllByRecursion (λ variable. registers 0 variable ≡ Some variable) state.parameters
+    (states : List AutomatonState) (registers : Registers) → IsAssigned states registers
+    → (state : AutomatonState) → slice_get states 0 ≡ Some state → AllByRecursion (λ variable. registers.of 0 variable ≡ Some variable) state.parameters
 
 -- the rule leaves nothing open: registers by the rule are the only ones
 abbrev pub OnlyOne : Type 0
-OnlyOne =
-    (states : List AutomatonState) (registers others : ℕ → ℕ → Option ℕ) → IsAssigned states registers → IsAssigned states others
-    → (number name : ℕ) → registers number name ≡ others number name
+OnlyOne = (states : List AutomatonState) (registers others : Registers) → IsAssigned states registers → IsAssigned states others → registers ≡ others

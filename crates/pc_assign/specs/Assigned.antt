@@ -13,9 +13,9 @@ use Rattle.pc_automaton.specs.declared.automaton.AutomatonLeaf.{AutomatonLeaf}
 use Rattle.pc_automaton.specs.declared.automaton.AutomatonLeaf.TheVariants.{To, Out, Stop, Trap}
 use Rattle.pc_automaton.specs.Automaton.{AutomatonState, names_written}
 use Rattle.pc_assign.specs.Uses.{row_uses}
-use Rattle.pc_assign.specs.Pressure.{allowed}
+use Rattle.pc_assign.specs.Pressure.{IsScratch}
 
--- ---- taken registers
+-- ---- taken registers, where names have those below scratch
 
 -- whether this is a name's register
 abbrev pub is_register : ℕ → Option ℕ → Bool
@@ -30,22 +30,22 @@ one_has of names register = list_any (λ name. is_register register (of name)) n
 abbrev pub used_has : (ℕ → Bool) → (ℕ → Option ℕ) → List ℕ → ℕ → Bool
 used_has used of names register = list_any (λ name. used name && is_register register (of name)) names
 
--- the least register that is not taken, and it is allowed
-pub record IsLeast (taken : ℕ → Bool) (register : ℕ) : Type 0 where
-  pub below : register < allowed
+-- the least register that is not taken, and it stands below scratch
+pub record IsLeast (scratch : ℕ) (taken : ℕ → Bool) (register : ℕ) : Type 0 where
+  pub below : register < scratch
   pub free : taken register ≡ false
   pub least : (other : ℕ) → other < register → taken other ≡ true
 
--- all allowed registers are taken
-abbrev pub AllTaken : (ℕ → Bool) → Type 0
-AllTaken taken = (register : ℕ) → register < allowed → taken register ≡ true
+-- all registers below scratch are taken
+abbrev pub AllTaken : ℕ → (ℕ → Bool) → Type 0
+AllTaken scratch taken = (register : ℕ) → register < scratch → taken register ≡ true
 
 -- ---- parameters
 
 -- a parameter's register: what it is passed, if no parameter before it has that, and else the least that none of these has
-abbrev pub IsParameterChoice : (ℕ → Bool) → Option ℕ → ℕ → Type 0
-IsParameterChoice taken (Some passed) register = MatchBool (taken passed) (IsLeast taken register) (register ≡ passed)
-IsParameterChoice taken None register = IsLeast taken register
+abbrev pub IsParameterChoice : ℕ → (ℕ → Bool) → Option ℕ → ℕ → Type 0
+IsParameterChoice scratch taken (Some passed) register = MatchBool (taken passed) (IsLeast scratch taken register) (register ≡ passed)
+IsParameterChoice scratch taken None register = IsLeast scratch taken register
 
 -- the register that is passed at a place, if one is
 abbrev pub passed_at : Option (Option ℕ) → Option ℕ
@@ -53,10 +53,10 @@ passed_at (Some passed) = passed
 passed_at None = None
 
 -- each parameter has the register that the rule gives it, where these are passed
-abbrev pub ParametersByRule : (ℕ → Option ℕ) → List (Option ℕ) → List ℕ → Type 0
-ParametersByRule of passed parameters =
+abbrev pub ParametersByRule : ℕ → (ℕ → Option ℕ) → List (Option ℕ) → List ℕ → Type 0
+ParametersByRule scratch of passed parameters =
     (at name : ℕ) → slice_get parameters at ≡ Some name
-    → IsSomeAnd (of name) (IsParameterChoice (one_has of (take at parameters)) (passed_at (slice_get passed at)))
+    → IsSomeAnd (of name) (IsParameterChoice scratch (one_has of (take at parameters)) (passed_at (slice_get passed at)))
 
 -- the register of what is passed, if it is a name
 abbrev pub operand_register : (ℕ → Option ℕ) → Operand → Option ℕ
@@ -86,31 +86,31 @@ abbrev pub passed_to : List AutomatonState → (ℕ → ℕ → Option ℕ) → 
 passed_to states registers to = unwrap_or (states_pass registers to 0 (take to states)) []
 
 -- the parameters of the first state are the variables, each in the register of its number; those of others are by the rule
-abbrev pub Parameters : ℕ → (ℕ → Option ℕ) → List (Option ℕ) → List ℕ → Type 0
-Parameters zero of passed parameters = AllByRecursion (λ variable. of variable ≡ Some variable) parameters
-Parameters (suc before) of passed parameters = ParametersByRule of passed parameters
+abbrev pub Parameters : ℕ → ℕ → (ℕ → Option ℕ) → List (Option ℕ) → List ℕ → Type 0
+Parameters scratch zero of passed parameters = AllByRecursion (λ variable. of variable ≡ Some variable) parameters
+Parameters scratch (suc before) of passed parameters = ParametersByRule scratch of passed parameters
 
 -- ---- defined names
 
 -- a defined name's register: the least that is not taken, and if all are, the least that is not needed
-pub data IsDefinitionChoice (taken needed : ℕ → Bool) (register : ℕ) : Type 0 where
-  First_choice : IsLeast taken register → IsDefinitionChoice taken needed register
-  Second_choice : AllTaken taken → IsLeast needed register → IsDefinitionChoice taken needed register
+pub data IsDefinitionChoice (scratch : ℕ) (taken needed : ℕ → Bool) (register : ℕ) : Type 0 where
+  First_choice : IsLeast scratch taken register → IsDefinitionChoice scratch taken needed register
+  Second_choice : AllTaken scratch taken → IsLeast scratch needed register → IsDefinitionChoice scratch taken needed register
 
 -- Where an item defines a name, it has the register that the rule gives it. Taken are those of the parameters and of the
 -- names that are defined above it, and needed those of the parameters that are used below it and of the same names.
-abbrev pub DestByRule : (ℕ → Option ℕ) → List ℕ → List ℕ → Row AutomatonLeaf → Option ℕ → Type 0
-DestByRule of parameters above rest (Some dest) =
-    IsSomeAnd (of dest) (IsDefinitionChoice (λ register. one_has of parameters register || one_has of above register)
+abbrev pub DestByRule : ℕ → (ℕ → Option ℕ) → List ℕ → List ℕ → Row AutomatonLeaf → Option ℕ → Type 0
+DestByRule scratch of parameters above rest (Some dest) =
+    IsSomeAnd (of dest) (IsDefinitionChoice scratch (λ register. one_has of parameters register || one_has of above register)
     (λ register. used_has (row_uses rest) of parameters register || one_has of above register))
-DestByRule of parameters above rest None = Unit {0}
+DestByRule scratch of parameters above rest None = Unit {0}
 
 -- so have all names that a row defines, below definitions of these names
-abbrev pub RowByRule : (ℕ → Option ℕ) → List ℕ → List ℕ → Row AutomatonLeaf → Type 0
-RowByRule of parameters above (Then item rest) =
-    DestByRule of parameters above rest (dest_of item) × RowByRule of parameters (named (dest_of item) above) rest
-RowByRule of parameters above (Either on on_yes on_no) = RowByRule of parameters above on_yes × RowByRule of parameters above on_no
-RowByRule of parameters above (At_leaf leaf) = Unit {0}
+abbrev pub RowByRule : ℕ → (ℕ → Option ℕ) → List ℕ → List ℕ → Row AutomatonLeaf → Type 0
+RowByRule scratch of parameters above (Then item rest) =
+    DestByRule scratch of parameters above rest (dest_of item) × RowByRule scratch of parameters (named (dest_of item) above) rest
+RowByRule scratch of parameters above (Either on on_yes on_no) = RowByRule scratch of parameters above on_yes × RowByRule scratch of parameters above on_no
+RowByRule scratch of parameters above (At_leaf leaf) = Unit {0}
 
 -- ---- the whole
 
@@ -119,16 +119,26 @@ abbrev pub state_names : AutomatonState → List ℕ
 state_names state = state.parameters ++ names_written state.row
 
 -- the names of a state have registers by the rule, and no other name has one
-pub record StateByRule (number : ℕ) (passed : List (Option ℕ)) (of : ℕ → Option ℕ) (state : AutomatonState) : Type 0 where
-  pub parameters : Parameters number of passed state.parameters
-  pub row : RowByRule of state.parameters [] state.row
+pub record StateByRule (scratch number : ℕ) (passed : List (Option ℕ)) (of : ℕ → Option ℕ) (state : AutomatonState) : Type 0 where
+  pub parameters : Parameters scratch number of passed state.parameters
+  pub row : RowByRule scratch of state.parameters [] state.row
   pub others : (name : ℕ) → is_in name (state_names state) ≡ false → of name ≡ None
 
--- the names of each state have registers by the rule: `registers number name` is that of a name of a state
-pub record IsAssigned (states : List AutomatonState) (registers : ℕ → ℕ → Option ℕ) : Type 0 where
+-- registers for an automaton: `of number name` is that of a name of a state, and scratch is the one that is left for moves
+pub record Registers : Type 0 where
+  pub of : ℕ → ℕ → Option ℕ
+  pub scratch : ℕ
+
+-- the names of each state have registers by the rule, below scratch
+pub record AreByRule (scratch : ℕ) (states : List AutomatonState) (registers : ℕ → ℕ → Option ℕ) : Type 0 where
   pub each : (number : ℕ) (state : AutomatonState) → slice_get states number ≡ Some state
-      → StateByRule number (passed_to states registers number) (registers number) state
+      → StateByRule scratch number (passed_to states registers number) (registers number) state
   pub none : (number name : ℕ) → length states ≤ number → registers number name ≡ None
+
+-- all names have, and scratch is as small as the states' pressures let it be
+pub record IsAssigned (states : List AutomatonState) (registers : Registers) : Type 0 where
+  pub left : IsScratch states registers.scratch
+  pub rule : AreByRule registers.scratch states registers.of
 
 -- the parameters of the first state are variables, which are below 96; as each name stands once in a state, they are different
 pub record BeginsWithVariables (states : List AutomatonState) : Type 0 where

@@ -2,6 +2,7 @@
 use Rattle.std.specs.Prelude.{ℕ, if◌then◌else◌, nat_eq, List, [], ◌∷◌, Option, Some, None, slice_get}
 use Rattle.pc_automaton.specs.Automaton.{AutomatonState}
 use Rattle.pc_assign.specs.Pressure.{IsFirstHigh}
+use Rattle.pc_assign.specs.Assigned.{Registers}
 use Rattle.pc_assign.specs.declared.error.AssignError.{AssignError}
 use Rattle.pc_assign.specs.declared.error.AssignError.TheVariants.{Pressure, Memory}
 use Rattle.pc_assign.specs.declared.assigned.Assigned.{Assigned}
@@ -18,9 +19,9 @@ abbrev pub register_in : Option StateRegisters → ℕ → Option ℕ
 register_in (Some state) name = beside state.names.keys state.registers name
 register_in None name = None
 
--- the registers of all names: of a state, of a name
-abbrev pub registers_in : Assigned → ℕ → ℕ → Option ℕ
-registers_in assigned number = register_in (slice_get assigned.states number)
+-- the registers of all names: of a state, of a name; and the one that is left
+abbrev pub registers_in : Assigned → Registers
+registers_in assigned = record { of = λ number. register_in (slice_get assigned.states number); scratch = assigned.scratch }
 
 -- when an automaton is refused: the first state with too high a pressure is named, with its pressure. Memory may run out at any time.
 abbrev pub Refuses : List AutomatonState → AssignError → Type 0

@@ -17,21 +17,30 @@ pub(crate) struct StateRegisters {
     pub(crate) registers: RegisterList,
 }
 
-/// The registers of an automaton's names.
+/// The registers of an automaton's names, and the one that is left for moves.
 #[derive(Drop)]
 pub struct Assigned {
     pub(crate) states: Seq<StateRegisters>,
+    pub(crate) scratch: u8,
 }
 
 impl Assigned {
     /// A name's register in a state, if it is a name of the state. It takes one look-up by hash.
     pub fn register(&self, state: u32, name: u32) -> Option<u32>
-        ensures { result ≡ registers_in self.now state name }
+        ensures { result ≡ (registers_in self.now).of state name }
     {
         match self.states.get(state as usize) {
             Some(registers) => registers.register(name),
             None => None,
         }
+    }
+
+    /// The register that no name has, so that copies may go through it: the last one of a machine that
+    /// has registers enough. All names' registers are below it. It takes no memory.
+    pub fn scratch(&self) -> u8
+        ensures { result ≡ (registers_in self.now).scratch }
+    {
+        self.scratch
     }
 }
 

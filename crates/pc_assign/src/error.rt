@@ -8,7 +8,7 @@ use thiserror::Error;
 /// Why names got no registers.
 #[derive(Clone, Copy, Debug, PartialEq, Eq, Error)]
 pub enum AssignError {
-    /// In this state more names are live together than there are registers.
+    /// In this state more names are live together than there are registers for them.
     #[error("{live} names are live together in state {state}")]
     Pressure { state: u32, live: u64 },
     /// Memory ran out.

@@ -17,4 +17,3 @@ pub use assigned::Assigned;
 pub use assigning::{assign, begins_with_variables};
 pub use error::AssignError;
 pub use laws::{law_of_live_names, law_of_one_rule};
-pub use register_set::SCRATCH;

@@ -2,11 +2,11 @@
 ghost use Rattle.std.specs.Prelude.{◌≡◌, ◌+◌, ◌<◌, ◌≤◌, ◌^◌, suc, length, count_by, MatchOption};
 ghost use Rattle.pc_automaton.specs.Automaton.{state_in};
 ghost use Rattle.pc_assign.specs.Uses.{row_uses};
-ghost use Rattle.pc_assign.specs.Pressure.{allowed, pressure_of, row_pressure, IsLow};
+ghost use Rattle.pc_assign.specs.Pressure.{most_scratch, pressure_of, row_pressure, IsLow};
 ghost use Rattle.pc_assign.specs.models.Choosing.{definitions_in, IsUsedSet};
 ghost use Rattle.pc_word.specs.StoredRow.{row_in};
 
-use crate::register_set::{RegisterSet, SCRATCH};
+use crate::register_set::{MOST_SCRATCH, RegisterSet};
 use crate::uses::{row_uses, used_by};
 use pc_automaton::{AutomatonLeaf, AutomatonState};
 use pc_word::RowTree;
@@ -18,18 +18,18 @@ struct Below {
     live: u64,
 }
 
-/// The pressure of a state with so many names, where it is too high. It is at most their number, so
-/// where there are registers for all of them nothing is counted.
-pub(crate) fn high_pressure(state: &AutomatonState, names: usize) -> Option<u64>
+/// The pressure of a state with so many names, where it is above the register that is left. It is at
+/// most their number, so where there are registers for all of them nothing is counted.
+pub(crate) fn high_pressure(scratch: u8, state: &AutomatonState, names: usize) -> Option<u64>
     requires names { definitions_in (row_in (λ leaf. leaf) state.now.row) + length state.now.parameters ≡ names }
     requires fits { names < 2 ^ 63 }
-    ensures { MatchOption result (IsLow (state_in state.now)) (λ live. (live ≡ pressure_of (state_in state.now)) × (allowed < live)) }
+    ensures { MatchOption result (IsLow scratch (state_in state.now)) (λ live. (live ≡ pressure_of (state_in state.now)) × (scratch < live)) }
 {
-    if names <= SCRATCH as usize {
+    if names <= usize::from(scratch) {
         return None;
     }
     let live = pressure_of(state);
-    if live <= u64::from(SCRATCH) {
+    if live <= u64::from(scratch) {
         return None;
     }
     Some(live)
@@ -50,7 +50,7 @@ fn greatest_pressure(parameters: &[u32], row: &RowTree<AutomatonLeaf>) -> u64
     requires { definitions_in (row_in (λ leaf. leaf) row.now) + length parameters.now < 2 ^ 63 }
     ensures { result ≡ row_pressure parameters.now 0 (row_in (λ leaf. leaf) row.now) }
 {
-    if parameters.len() <= SCRATCH as usize {
+    if parameters.len() <= usize::from(MOST_SCRATCH) {
         return pressure_below(parameters, 0, row).live;
     }
     row_pressure(parameters, 0, row)
@@ -59,7 +59,7 @@ fn greatest_pressure(parameters: &[u32], row: &RowTree<AutomatonLeaf>) -> u64
 /// What is used at the leaves of a row, and the greatest pressure of its items, below `above`
 /// definitions.
 fn pressure_below(parameters: &[u32], above: u64, row: &RowTree<AutomatonLeaf>) -> Below
-    requires few { length parameters.now ≤ allowed }
+    requires few { length parameters.now ≤ most_scratch }
     requires fits { above + definitions_in (row_in (λ leaf. leaf) row.now) + length parameters.now < 2 ^ 63 }
     ensures used { IsUsedSet (row_uses (row_in (λ leaf. leaf) row.now)) parameters.now result.used }
     ensures live { result.live ≡ row_pressure parameters.now above (row_in (λ leaf. leaf) row.now) }

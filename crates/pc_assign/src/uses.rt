@@ -3,7 +3,7 @@ ghost use Rattle.std.specs.Prelude.{◌≡◌, ◌≤◌, length};
 ghost use Rattle.std.specs.List.{list_any};
 ghost use Rattle.pc_word.specs.Items.{reads_name};
 ghost use Rattle.pc_assign.specs.Uses.{leaf_uses, row_uses};
-ghost use Rattle.pc_assign.specs.Pressure.{allowed};
+ghost use Rattle.pc_assign.specs.Pressure.{most_scratch};
 ghost use Rattle.pc_assign.specs.models.Choosing.{IsUsedSet};
 ghost use Rattle.pc_word.specs.StoredRow.{row_in};
 
@@ -26,7 +26,7 @@ pub(crate) fn row_uses(row: &RowTree<AutomatonLeaf>, name: u32) -> bool
 /// The places of the parameters that are used at some leaf of a row.
 #[tactic(auto, using(crate::proofs::UsedSets::sets))]
 pub(crate) fn used_in(parameters: &[u32], row: &RowTree<AutomatonLeaf>) -> RegisterSet
-    requires { length parameters.now ≤ allowed }
+    requires { length parameters.now ≤ most_scratch }
     ensures { IsUsedSet (row_uses (row_in (λ leaf. leaf) row.now)) parameters.now result }
 {
     match row {
@@ -38,7 +38,7 @@ pub(crate) fn used_in(parameters: &[u32], row: &RowTree<AutomatonLeaf>) -> Regis
 
 /// The places of the parameters that a leaf uses.
 pub(crate) fn used_by(parameters: &[u32], leaf: &AutomatonLeaf) -> RegisterSet
-    requires { length parameters.now ≤ allowed }
+    requires { length parameters.now ≤ most_scratch }
     ensures { IsUsedSet (leaf_uses leaf.now) parameters.now result }
 {
     let mut set = RegisterSet::empty();

@@ -3,7 +3,7 @@ use Rattle.std.proofs.Common.{◌≡◌, refl, List, [], ◌∷◌, Some, Ok, Er
 use Rattle.pc_word.specs.Exact.{checked, IsRefusal}
 use Rattle.pc_check.specs.declared.error.CheckError.{CheckError}
 use Rattle.pc_check.specs.declared.error.CheckError.TheVariants.{Undeclared, Redeclared, NotArray, NotScalar, BadSize, OutsideLoop}
-use Rattle.pc_check.specs.declared.error.CheckError.TheVariants.{TooManyScalars, TooManyArrays, TooManyElements, TooDeep, Memory}
+use Rattle.pc_check.specs.declared.error.CheckError.TheVariants.{TooManyScalars, TooManyArrays, TooManyElements, TooManyValues, TooDeep, Memory}
 use Rattle.pc_check.specs.Checks.{check_cause}
 use Rattle.pc_check.specs.models.Resolves.{IsFirst}
 
@@ -34,4 +34,5 @@ refused-first (OutsideLoop line) found value is = refused-at found value _ is
 refused-first (TooManyScalars line) found value is = refused-at found value _ is
 refused-first (TooManyArrays line) found value is = refused-at found value _ is
 refused-first (TooManyElements line) found value is = refused-at found value _ is
+refused-first (TooManyValues line) found value is = refused-at found value _ is
 refused-first (TooDeep line) found value is = refused-at found value _ is

@@ -1,12 +1,15 @@
 -- Small programs with their faults, slots and sizes, worked out by hand: each computes. A program's text
 -- stands above it; where lines are not named, a statement stands on the line of its place.
-use Rattle.std.proofs.Common.{◌≡◌, refl, ap, ℕ, zero, suc, ◌+◌, ◌*◌, pos, List, [], ◌∷◌, ◌++◌, Some, None, arith}
+use Rattle.std.proofs.Common.{◌≡◌, refl, ap, ℕ, ℤ, zero, suc, ◌+◌, ◌*◌, pos, List, [], ◌∷◌, ◌++◌, Some, None, arith}
+use Rattle.std.specs.Prelude.{negsuc}
+use Rattle.pc_syntax.specs.declared.constant.Const.{Const}
 use Rattle.pc_syntax.specs.declared.operator.BinaryOp.TheVariants as op
 use Rattle.pc_syntax.specs.Source.{SourceExpression, Literal, Variable, Input, Indexed, Combined, SourceStatement, Scope, ScalarDeclaration}
 use Rattle.pc_syntax.specs.Source.{ArrayDeclaration, Assignment, Printing, Branch, WhileLoop, DoLoop, ForLoop, BreakOut, ContinueOn, Absent, Present}
 use Rattle.pc_syntax.specs.Source.{SourceList, No_more, More, SourceProgram}
 use Rattle.pc_syntax.proofs.SourceLists.{source_list}
 use Rattle.pc_check.specs.declared.error.CheckError.TheVariants as fault
+use Rattle.pc_check.specs.InitialData.{data_of}
 use Rattle.pc_check.specs.Needs.{need}
 use Rattle.pc_check.specs.Sizes.{size, list_size, statement_size, expression_size}
 use Rattle.pc_check.specs.Faults.{faults, expression_faults, statement_faults, names_behind}
@@ -31,7 +34,15 @@ int_at line name = ScalarDeclaration name line None
 
 -- `int name[length];` at a line
 abbrev array_at : ℕ → ℕ → ℕ → SourceStatement
-array_at line name length = ArrayDeclaration name line line length
+array_at line name length = ArrayDeclaration name line line length []
+
+-- `static int name[length]={values};` at a line
+abbrev static_at : ℕ → ℕ → ℕ → List Const → SourceStatement
+static_at line name length values = ArrayDeclaration name line line length values
+
+-- a constant at a line
+abbrev constant : ℕ → ℤ → Const
+constant line value = record { line = line; value = value }
 
 -- `name = 1;` at a line
 abbrev set_at : ℕ → ℕ → SourceStatement
@@ -69,10 +80,24 @@ unfolding expression_faults statement_faults names_behind need
 no_scalar = refl
 
 -- arrays of 0, of 65,537 and of 65,536 elements
-bad_size : faults (program (ArrayDeclaration x 1 2 0 ∷ ArrayDeclaration y 3 4 65537 ∷ array_at 5 a 65536 ∷ []))
+bad_size : faults (program (ArrayDeclaration x 1 2 0 [] ∷ ArrayDeclaration y 3 4 65537 [] ∷ array_at 5 a 65536 ∷ []))
     ≡ fault.BadSize 2 ∷ fault.BadSize 4 ∷ []
 unfolding expression_faults statement_faults names_behind need
 bad_size = refl
+
+-- `static int a[2]={1,
+-- 2,
+-- 3,
+-- 4};`, which is told at the first value too many, and so where the rest is 0 too
+too_many_values : faults (program (static_at 1 a 2 (constant 1 (pos 1) ∷ constant 2 (pos 2) ∷ constant 3 (pos 0) ∷ constant 4 (pos 0) ∷ []) ∷ []))
+    ≡ fault.TooManyValues 3 ∷ []
+unfolding expression_faults statement_faults names_behind need
+too_many_values = refl
+
+-- `static int a[0]={1};`, where the length comes first
+size_before_values : faults (program (static_at 1 a 0 (constant 2 (pos 1) ∷ []) ∷ [])) ≡ fault.BadSize 1 ∷ fault.TooManyValues 2 ∷ []
+unfolding expression_faults statement_faults names_behind need
+size_before_values = refl
 
 -- `break;`, `continue;`, and both in a loop's body, there also in an `if` and a block
 outside_loop : faults (program (BreakOut 1 ∷ ContinueOn 2
@@ -109,6 +134,7 @@ hidden-faults = refl
 hidden-slots : resolved hidden ≡ record {
   scalars = 4;
   arrays = [];
+  initial = [];
   body = source_list (int_at 1 0
       ∷ Scope (source_list (int_at 2 1 ∷ set_at 3 1 ∷ Scope (source_list (int_at 4 2 ∷ set_at 5 2 ∷ [])) ∷ []))
       ∷ int_at 6 3 ∷ assign_at 7 3 (Variable 0 7) ∷ []);
@@ -128,11 +154,27 @@ numbered-faults = refl
 numbered-slots : resolved numbered ≡ record {
   scalars = 1;
   arrays = 3 ∷ 5 ∷ [];
+  initial = [] ∷ [] ∷ [];
   body = source_list (array_at 1 0 3 ∷ ScalarDeclaration 0 2 (Some (Variable 0 2))
       ∷ Scope (source_list (array_at 3 1 5 ∷ Assignment 1 4 (Some (Variable 0 4)) 4 None 4 (Indexed 0 4 4 (Literal (pos 0))) ∷ [])) ∷ []);
 }
-unfolding numbered expression_faults statement_faults names_behind need resolved_expression resolved_statement
+unfolding numbered expression_faults statement_faults names_behind need resolved_expression resolved_statement data_of
 numbered-slots = refl
+
+-- `static int a[4]={5,-6,0,0}; { static int a[2]={0}; static int y[3]={0,
+-- 7,0}; }`: each array has its data, and zeros at the end are left out
+with_values : SourceProgram
+with_values = program (static_at 1 a 4 (constant 1 (pos 5) ∷ constant 1 (negsuc 5) ∷ constant 1 (pos 0) ∷ constant 1 (pos 0) ∷ [])
+    ∷ Scope (source_list (static_at 1 a 2 (constant 1 (pos 0) ∷ [])
+    ∷ static_at 1 y 3 (constant 1 (pos 0) ∷ constant 2 (pos 7) ∷ constant 2 (pos 0) ∷ []) ∷ [])) ∷ [])
+
+with_values-faults : faults with_values ≡ []
+unfolding with_values expression_faults statement_faults names_behind need
+with_values-faults = refl
+
+with_values-data : (resolved with_values).initial ≡ (pos 5 ∷ negsuc 5 ∷ []) ∷ [] ∷ (pos 0 ∷ pos 7 ∷ []) ∷ []
+unfolding with_values expression_faults statement_faults names_behind need resolved_expression resolved_statement data_of
+with_values-data = refl
 
 -- `for (int x = 0; x < y; x += a) x = 1; x = 1;` with none of the others declared: the condition, then the step, then
 -- what follows, where x is not known
@@ -155,7 +197,7 @@ unfolding expression_faults statement_faults names_behind need
 jump_then_name = refl
 
 -- `int x; int x[0];`: the name comes before the length
-name_then_length : faults (program (int_at 1 x ∷ ArrayDeclaration x 2 3 0 ∷ [])) ≡ fault.Redeclared 2 ∷ fault.BadSize 3 ∷ []
+name_then_length : faults (program (int_at 1 x ∷ ArrayDeclaration x 2 3 0 [] ∷ [])) ≡ fault.Redeclared 2 ∷ fault.BadSize 3 ∷ []
 unfolding expression_faults statement_faults names_behind need
 name_then_length = refl
 
@@ -196,12 +238,12 @@ elements_1048576 : faults (program (arrays_from 65536 0 16)) ≡ []
 unfolding arrays_from expression_faults statement_faults names_behind need
 elements_1048576 = refl
 
-elements_1048577 : faults (program (arrays_from 65536 0 16 ++ ArrayDeclaration 99 50 51 1 ∷ [])) ≡ fault.TooManyElements 51 ∷ []
+elements_1048577 : faults (program (arrays_from 65536 0 16 ++ ArrayDeclaration 99 50 51 1 [] ∷ [])) ≡ fault.TooManyElements 51 ∷ []
 unfolding arrays_from expression_faults statement_faults names_behind need
 elements_1048577 = refl
 
 -- a length that is bad by itself is told as that
-elements_and_bad_size : faults (program (arrays_from 65536 0 16 ++ ArrayDeclaration 99 50 51 70000 ∷ [])) ≡ fault.BadSize 51 ∷ []
+elements_and_bad_size : faults (program (arrays_from 65536 0 16 ++ ArrayDeclaration 99 50 51 70000 [] ∷ [])) ≡ fault.BadSize 51 ∷ []
 unfolding arrays_from expression_faults statement_faults names_behind need
 elements_and_bad_size = refl
 

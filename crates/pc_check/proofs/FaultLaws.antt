@@ -2,7 +2,7 @@
 use Rattle.std.proofs.Common.{◌≡◌, sym, ap, subst, ◌∙◌, List, [], ◌∷◌, ◌++◌, Some, Result, Ok, Err, IsErrAnd, IfErr, slice_get}
 use Rattle.pc_word.specs.Exact.{checked, IsRefusal, IsExact}
 use Rattle.pc_check.specs.declared.error.CheckError.{CheckError}
-use Rattle.pc_check.specs.declared.error.CheckError.TheVariants.{Undeclared, Redeclared, NotArray, NotScalar, BadSize, OutsideLoop, TooManyScalars, TooManyArrays, TooManyElements, TooDeep, Memory}
+use Rattle.pc_check.specs.declared.error.CheckError.TheVariants.{Undeclared, Redeclared, NotArray, NotScalar, BadSize, OutsideLoop, TooManyScalars, TooManyArrays, TooManyElements, TooManyValues, TooDeep, Memory}
 use Rattle.pc_check.specs.Checks.{check_cause}
 use Rattle.pc_check.specs.models.Resolves.{IsFirst}
 
@@ -22,6 +22,7 @@ is_first (OutsideLoop line) found at = at
 is_first (TooManyScalars line) found at = at
 is_first (TooManyArrays line) found at = at
 is_first (TooManyElements line) found at = at
+is_first (TooManyValues line) found at = at
 is_first (TooDeep line) found at = at
 
 -- the first fault of the front is the first of the whole
@@ -39,6 +40,7 @@ IsFirst-front e (first ∷ others) rest is = by e is
     by (TooManyScalars line) is = is
     by (TooManyArrays line) is = is
     by (TooManyElements line) is = is
+    by (TooManyValues line) is = is
     by (TooDeep line) is = is
 IsFirst-front e [] rest is = by e is
   where
@@ -53,6 +55,7 @@ IsFirst-front e [] rest is = by e is
     by (TooManyScalars line) is = cc
     by (TooManyArrays line) is = cc
     by (TooManyElements line) is = cc
+    by (TooManyValues line) is = cc
     by (TooDeep line) is = cc
 
 -- where the front has no fault, the first of the rest is the first of the whole
@@ -90,6 +93,7 @@ IsFirst-cause (OutsideLoop line) found value is = first_of found value is
 IsFirst-cause (TooManyScalars line) found value is = first_of found value is
 IsFirst-cause (TooManyArrays line) found value is = first_of found value is
 IsFirst-cause (TooManyElements line) found value is = first_of found value is
+IsFirst-cause (TooManyValues line) found value is = first_of found value is
 IsFirst-cause (TooDeep line) found value is = first_of found value is
 
 -- also where it is passed on by `?`

@@ -10,5 +10,7 @@ pub mod NameLaws
 pub mod StatementLaws
 pub mod ScopeForms
 pub mod SoundLaws
+pub mod DataLaws
+pub mod ProgramData
 pub mod ProgramLaws
-pub mod Examples
+mod Examples

@@ -17,7 +17,7 @@ mutual
   pub names_behind-outer : (s : SourceStatement) (n : Names) → (names_behind s n).outer ≡ n.outer
   names_behind-outer (Scope items) n = refl
   names_behind-outer (ScalarDeclaration symbol line initial) n = refl
-  names_behind-outer (ArrayDeclaration symbol line at size) n = refl
+  names_behind-outer (ArrayDeclaration symbol line at size values) n = refl
   names_behind-outer (Assignment symbol line index bracket op at value) n = refl
   names_behind-outer (Printing line value) n = refl
   names_behind-outer (Evaluation line value) n = refl

@@ -47,7 +47,7 @@ mutual
   statement_size-resolved (Scope items) n = list_size-resolved items (entered n)
   statement_size-resolved (ScalarDeclaration symbol line initial) n =
       ap (λ (k : ℕ). k + 1) (optional_size-resolved (with_scalar n symbol) initial)
-  statement_size-resolved (ArrayDeclaration symbol line at length) n = refl
+  statement_size-resolved (ArrayDeclaration symbol line at length values) n = refl
   statement_size-resolved (Assignment symbol line index bracket op at value) n =
       let i = optional_size-resolved n index in
       let v = expression_size-resolved n value in

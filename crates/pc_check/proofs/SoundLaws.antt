@@ -1,5 +1,5 @@
 -- A program without faults is resolved to one whose names are slots that there are.
-use Rattle.std.proofs.Common.{◌≡◌, refl, ap, ◌∙◌, sym, subst, ℕ, ◌+◌, ◌<◌, ◌≤◌, Bool, true, false, cond, List, [], ◌∷◌, ◌++◌, length, Option, Some, None, nat_lt, nat_le, nat_eq, not, arith}
+use Rattle.std.proofs.Common.{◌≡◌, refl, ap, ◌∙◌, sym, subst, ℕ, ℤ, ◌+◌, ◌<◌, ◌≤◌, Bool, true, false, cond, List, [], ◌∷◌, ◌++◌, length, Option, Some, None, nat_lt, nat_le, nat_eq, not, arith}
 use Rattle.std.specs.Option.{option_or}
 use Rattle.std.specs.Map.{lookup}
 use Rattle.std.proofs.lemmas.List.{length-append}
@@ -15,6 +15,7 @@ use Rattle.pc_check.specs.declared.error.CheckError.TheVariants as fault
 use Rattle.pc_check.specs.declared.slot.Slot.{Slot}
 use Rattle.pc_check.specs.declared.slot.Slot.TheVariants as slot
 use Rattle.pc_check.specs.Needs.{hold, need, optional_need, assignment_need}
+use Rattle.pc_check.specs.InitialData.{data_of}
 use Rattle.pc_check.specs.Names as names
 use Rattle.pc_check.specs.Names.{Names, no_names, found, found_in, entered, left, with_scalar, with_array}
 use Rattle.pc_check.specs.Faults.{scalar_use, array_use, expression_faults, optional_faults, depth_faults, fault_if, measured_faults, scalar_faults}
@@ -71,11 +72,11 @@ assignment_need-resolved n (Some index) (Some op) value =
 
 -- ---- lists without faults
 
-none_front : (front rest : List CheckError) → front ++ rest ≡ [] → front ≡ []
+pub none_front : (front rest : List CheckError) → front ++ rest ≡ [] → front ≡ []
 none_front [] rest none = refl
 none_front (first ∷ others) rest none = cc
 
-none_rest : (front rest : List CheckError) → front ++ rest ≡ [] → rest ≡ []
+pub none_rest : (front rest : List CheckError) → front ++ rest ≡ [] → rest ≡ []
 none_rest [] rest none = none
 none_rest (first ∷ others) rest none = cc
 
@@ -151,10 +152,10 @@ sane-with_scalar : (n : Names) (symbol : ℕ) → Sane n → Sane (with_scalar n
 sane-with_scalar n symbol sane =
     known-with n symbol (slot.Scalar n.scalars) (n.scalars + 1) (length n.lengths) (with_scalar n symbol) (omega arith) (omega arith) sane (omega arith) refl refl
 
-sane-with_array : (n : Names) (symbol size : ℕ) → Sane n → Sane (with_array n symbol size)
-sane-with_array n symbol size sane =
+sane-with_array : (n : Names) (symbol size : ℕ) (words : List ℤ) → Sane n → Sane (with_array n symbol size words)
+sane-with_array n symbol size words sane =
     let longer : length (n.lengths ++ size ∷ []) ≡ length n.lengths + 1 = length-append n.lengths (size ∷ []) in
-    known-with n symbol (slot.Array (length n.lengths)) n.scalars (length (n.lengths ++ size ∷ [])) (with_array n symbol size)
+    known-with n symbol (slot.Array (length n.lengths)) n.scalars (length (n.lengths ++ size ∷ [])) (with_array n symbol size words)
     (omega arith) (omega arith) sane (omega arith) refl refl
 
 -- ---- counts only grow
@@ -174,8 +175,8 @@ grows-trans a b c one two =
 grows-scalar : (n : Names) (symbol : ℕ) → Grows n (with_scalar n symbol)
 grows-scalar n symbol = record { scalars = omega arith; arrays = omega arith }
 
-grows-array : (n : Names) (symbol size : ℕ) → Grows n (with_array n symbol size)
-grows-array n symbol size =
+grows-array : (n : Names) (symbol size : ℕ) (words : List ℤ) → Grows n (with_array n symbol size words)
+grows-array n symbol size words =
     let longer : length (n.lengths ++ size ∷ []) ≡ length n.lengths + 1 = length-append n.lengths (size ∷ []) in
     record { scalars = omega arith; arrays = omega arith }
 
@@ -186,7 +187,7 @@ mutual
   grows : (s : SourceStatement) (n : Names) → Grows n (names_behind s n)
   grows (Scope items) n = let is = grows-list items (entered n) in record { scalars = is.scalars; arrays = is.arrays }
   grows (ScalarDeclaration symbol line initial) n = grows-scalar n symbol
-  grows (ArrayDeclaration symbol line at size) n = grows-array n symbol size
+  grows (ArrayDeclaration symbol line at size values) n = grows-array n symbol size (data_of values)
   grows (Assignment symbol line index bracket op at value) n = grows-refl n
   grows (Printing line value) n = grows-refl n
   grows (Evaluation line value) n = grows-refl n
@@ -228,7 +229,7 @@ mutual
   sane-behind (Scope items) n sane =
       let is = grows-list items (entered n) in sane-left n (names_behind_list items (entered n)) sane is.scalars is.arrays
   sane-behind (ScalarDeclaration symbol line initial) n sane = sane-with_scalar n symbol sane
-  sane-behind (ArrayDeclaration symbol line at size) n sane = sane-with_array n symbol size sane
+  sane-behind (ArrayDeclaration symbol line at size values) n sane = sane-with_array n symbol size (data_of values) sane
   sane-behind (Assignment symbol line index bracket op at value) n sane = sane
   sane-behind (Printing line value) n sane = sane
   sane-behind (Evaluation line value) n sane = sane
@@ -338,7 +339,7 @@ mutual
       and_made _ _ (grind arith)
       (and_made _ _ (ap (λ (k : ℕ). nat_le k most_temporaries) (optional_need-resolved inside initial) ∙ shallow (optional_need initial) line (none_front _ (optional_faults inside initial) rest))
       (optional-sound inside s a (known_at inside s a (sane-with_scalar n symbol sane) fits) initial (none_rest (depth_faults (optional_need initial) line) _ rest)))
-  statement-sound s a in_loop (ArrayDeclaration symbol line at size) n sane fits none =
+  statement-sound s a in_loop (ArrayDeclaration symbol line at size values) n sane fits none =
       let longer : length (n.lengths ++ size ∷ []) ≡ length n.lengths + 1 = length-append n.lengths (size ∷ []) in
       let below = fits.arrays in
       let lt : length n.lengths < a = omega arith in

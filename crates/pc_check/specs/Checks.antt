@@ -13,4 +13,4 @@ check_cause e = Some e
 
 -- the program that was checked, as it is resolved
 abbrev pub resolved_of : Checked → ResolvedProgram
-resolved_of checked = record { scalars = checked.scalars; arrays = checked.arrays; body = list_of checked.body.items }
+resolved_of checked = record { scalars = checked.scalars; arrays = checked.arrays; initial = checked.initial; body = list_of checked.body.items }

@@ -1,9 +1,10 @@
 -- What is wrong with the names and limits of a program: its faults, in the order in which they are met. The first of them is
 -- the answer of the check, so nothing is meant by what stands after it.
-use Rattle.std.specs.Prelude.{ℕ, ◌+◌, Bool, true, false, not, ◌||◌, Option, Some, None, List, [], ◌∷◌, ◌++◌, nat_eq, nat_lt, nat_le, sum, length}
+use Rattle.std.specs.Prelude.{ℕ, ◌+◌, Bool, true, false, not, ◌||◌, Option, Some, None, List, [], ◌∷◌, ◌++◌, nat_eq, nat_lt, nat_le, sum, length, slice_get}
 use Rattle.pc_word.specs.SourceLimits.{most_scalars, most_temporaries}
 use Rattle.pc_word.specs.MachineLimits.{most_arrays, most_length, most_elements}
 use Rattle.pc_syntax.specs.declared.operator.BinaryOp.{BinaryOp}
+use Rattle.pc_syntax.specs.declared.constant.Const.{Const}
 use Rattle.pc_syntax.specs.Source.{SourceExpression, Literal, Variable, Input, Indexed, Prefixed, Combined, Conjunction, Disjunction, Conditional}
 use Rattle.pc_syntax.specs.Source.{SourceStatement, Scope, ScalarDeclaration, ArrayDeclaration, Assignment, Printing, Evaluation, Branch, WhileLoop}
 use Rattle.pc_syntax.specs.Source.{DoLoop, ForLoop, BreakOut, ContinueOn, ReturnFrom, Nothing, OptionalStatement, Absent, Present, SourceList}
@@ -14,6 +15,7 @@ use Rattle.pc_check.specs.declared.error.CheckError.{CheckError}
 use Rattle.pc_check.specs.declared.error.CheckError.TheVariants as fault
 use Rattle.pc_check.specs.Names.{Names, no_names, found, is_declared_here, entered, left, with_scalar, with_array}
 use Rattle.pc_check.specs.Needs.{need, optional_need, assignment_need}
+use Rattle.pc_check.specs.InitialData.{data_of}
 
 -- one fault where a test holds
 abbrev pub fault_if : Bool → CheckError → List CheckError
@@ -86,10 +88,15 @@ array_length_faults names at size =
     fault_or (nat_eq size 0 || nat_lt most_length size) (fault.BadSize at)
     (fault_if (nat_lt most_elements (sum names.lengths + size)) (fault.TooManyElements at))
 
--- the declaration of an array
-abbrev pub array_faults : Names → ℕ → ℕ → ℕ → ℕ → List CheckError
-array_faults names symbol line at size =
-    array_name_faults names symbol line ++ array_length_faults names at size
+-- the first value of an initialiser that is one too many, where there is one (C17 6.7.9)
+abbrev pub surplus_faults : Option Const → List CheckError
+surplus_faults None = []
+surplus_faults (Some surplus) = fault.TooManyValues surplus.line ∷ []
+
+-- the declaration of an array with these values: its name, its length, and then more values than it has elements
+abbrev pub array_faults : Names → ℕ → ℕ → ℕ → ℕ → List Const → List CheckError
+array_faults names symbol line at size values =
+    array_name_faults names symbol line ++ (array_length_faults names at size ++ surplus_faults (slice_get values size))
 
 unfoldable mutual
   -- The names after a statement without faults. What a block or a `for` declares is known inside it alone, but its slots
@@ -97,7 +104,7 @@ unfoldable mutual
   pub names_behind : SourceStatement → Names → Names
   names_behind (Scope items) names = left names (names_behind_list items (entered names))
   names_behind (ScalarDeclaration symbol line initial) names = with_scalar names symbol
-  names_behind (ArrayDeclaration symbol line at size) names = with_array names symbol size
+  names_behind (ArrayDeclaration symbol line at size values) names = with_array names symbol size (data_of values)
   names_behind (Assignment symbol line index bracket op at value) names = names
   names_behind (Printing line value) names = names
   names_behind (Evaluation line value) names = names
@@ -141,7 +148,7 @@ unfoldable mutual
   statement_faults in_loop (ScalarDeclaration symbol line initial) names =
       scalar_faults names symbol line ++ (depth_faults (optional_need initial) line
       ++ optional_faults (with_scalar names symbol) initial)
-  statement_faults in_loop (ArrayDeclaration symbol line at size) names = array_faults names symbol line at size
+  statement_faults in_loop (ArrayDeclaration symbol line at size values) names = array_faults names symbol line at size values
   statement_faults in_loop (Assignment symbol line index bracket op at value) names =
       assignment_faults names symbol line index op value
   statement_faults in_loop (Printing line value) names = measured_faults names line value

@@ -1,4 +1,6 @@
 pub mod Names
+pub mod InitialData
+pub mod DataOnce
 pub mod Needs
 pub mod Sizes
 pub mod Faults

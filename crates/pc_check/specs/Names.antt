@@ -1,5 +1,5 @@
 -- The names that are declared where a place of a program is reached, and what each stands for.
-use Rattle.std.specs.Prelude.{ℕ, ◌+◌, Bool, Option, None, List, [], ◌∷◌, ◌++◌, nat_eq, is_some, length}
+use Rattle.std.specs.Prelude.{ℕ, ℤ, ◌+◌, Bool, Option, None, List, [], ◌∷◌, ◌++◌, nat_eq, is_some, length}
 use Rattle.std.specs.Option.{option_or}
 use Rattle.std.specs.Map.{lookup}
 use Rattle.pc_check.specs.declared.slot.Slot.{Slot}
@@ -19,10 +19,12 @@ pub record Names : Type 0 where
   pub scalars : ℕ
   -- the lengths of the arrays that were declared so far, in any scope
   pub lengths : List ℕ
+  -- the data with which each of these arrays begins
+  pub initial : List (List ℤ)
 
 -- in the block of `main`, before the first declaration
 abbrev pub no_names : Names
-no_names = record { innermost = []; outer = []; scalars = 0; lengths = [] }
+no_names = record { innermost = []; outer = []; scalars = 0; lengths = []; initial = [] }
 
 -- what a scope declares a name as
 abbrev pub declared_in : Scope → ℕ → Option Slot
@@ -56,9 +58,10 @@ with_scalar names symbol = record names {
   scalars = names.scalars + 1;
 }
 
--- with one more array in the innermost scope
-abbrev pub with_array : Names → ℕ → ℕ → Names
-with_array names symbol size = record names {
+-- with one more array in the innermost scope, of so many elements, which begins with these words
+abbrev pub with_array : Names → ℕ → ℕ → List ℤ → Names
+with_array names symbol size words = record names {
   innermost = names.innermost ++ (symbol, slot.Array (length names.lengths)) ∷ [];
   lengths = names.lengths ++ size ∷ [];
+  initial = names.initial ++ words ∷ [];
 }

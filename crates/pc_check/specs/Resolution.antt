@@ -48,8 +48,8 @@ unfoldable mutual
   resolved_statement (Scope items) names = Scope (resolved_list items (entered names))
   resolved_statement (ScalarDeclaration symbol line initial) names =
       ScalarDeclaration names.scalars line (resolved_optional (with_scalar names symbol) initial)
-  resolved_statement (ArrayDeclaration symbol line at size) names =
-      ArrayDeclaration (length names.lengths) line at size
+  resolved_statement (ArrayDeclaration symbol line at size values) names =
+      ArrayDeclaration (length names.lengths) line at size values
   resolved_statement (Assignment symbol line index bracket op at value) names =
       Assignment (slot_number names symbol) line (resolved_optional names index) bracket op at
       (resolved_expression names value)
@@ -89,5 +89,6 @@ resolved program =
     record {
       scalars = behind.scalars;
       arrays = behind.lengths;
+      initial = behind.initial;
       body = resolved_list program.items no_names;
     }

@@ -50,7 +50,8 @@ unfoldable mutual
   pub statement_size : SourceStatement → ℕ
   statement_size (Scope items) = list_size items
   statement_size (ScalarDeclaration symbol line initial) = optional_size initial + 1
-  statement_size (ArrayDeclaration symbol line at length) = 0
+  -- its elements are there before the program starts
+  statement_size (ArrayDeclaration symbol line at length values) = 0
   statement_size (Assignment symbol line index bracket op at value) =
       optional_size index + expression_size value + target_size index op
   statement_size (Printing line value) = expression_size value + 1

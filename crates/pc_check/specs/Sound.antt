@@ -46,7 +46,7 @@ unfoldable mutual
   is_sound scalars arrays in_loop (Scope items) = list_is_sound scalars arrays in_loop items
   is_sound scalars arrays in_loop (ScalarDeclaration number line initial) =
       nat_lt number scalars && (nat_le (optional_need initial) most_temporaries && optional_has_slots scalars arrays initial)
-  is_sound scalars arrays in_loop (ArrayDeclaration number line at size) = nat_lt number arrays
+  is_sound scalars arrays in_loop (ArrayDeclaration number line at size values) = nat_lt number arrays
   is_sound scalars arrays in_loop (Assignment number line index bracket op at value) =
       has_target scalars arrays index number && (nat_le (assignment_need index op value) most_temporaries
       && (optional_has_slots scalars arrays index && has_slots scalars arrays value))

@@ -38,6 +38,10 @@ pub enum CheckError {
     /// An array with which all arrays have more than 1,048,576 elements. The line is that of its length.
     #[error("too many elements at line {line}")]
     TooManyElements { line: u32 },
+    /// An array that is initialised with more values than it has elements (C17 6.7.9). The line is that of
+    /// the first value that is too many.
+    #[error("too many values at line {line}")]
+    TooManyValues { line: u32 },
     /// An expression that needs more than 32 temporaries at once. The line is that of the statement or of
     /// the declared name.
     #[error("expression too deep at line {line}")]

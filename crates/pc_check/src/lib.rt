@@ -5,6 +5,7 @@
 mod checked;
 mod error;
 mod expression;
+mod initial;
 mod laws;
 mod measure;
 mod program;

@@ -21,9 +21,12 @@ pub fn check(alloc: Global, program: &Program) -> Result<Checked, CheckError>
 {
     let mut scopes = Scopes::new(alloc);
     let items = check_list(alloc, &mut scopes, false, &program.items)?;
+    let scalars = scopes.scalars();
+    let (arrays, initial) = scopes.into_arrays();
     Ok(Checked {
-        scalars: scopes.scalars(),
-        arrays: scopes.into_lengths(),
+        scalars,
+        arrays,
+        initial,
         body: Program { items },
     })
 }

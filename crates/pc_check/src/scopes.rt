@@ -5,10 +5,12 @@ ghost use Rattle.pc_word.specs.MachineLimits.{most_arrays, most_elements};
 ghost use Rattle.pc_check.specs.Sound.{is_length};
 
 use crate::error::CheckError;
+use crate::initial::{check_values, data_of};
 use crate::search::find_in;
 use crate::slot::Slot;
 use indexmap::IndexMap;
-use pc_word::{LengthList, MOST_ARRAYS, MOST_ELEMENTS, MOST_LENGTH, MOST_SCALARS, Seq};
+use pc_syntax::ConstList;
+use pc_word::{DataList, LengthList, MOST_ARRAYS, MOST_ELEMENTS, MOST_LENGTH, MOST_SCALARS, Seq};
 use std::alloc::Global;
 use std::mem;
 
@@ -20,6 +22,7 @@ pub(crate) struct Scopes {
     outer: Vec<IndexMap<u32, Slot>>,
     scalars: u8,
     lengths: LengthList,
+    initial: DataList,
     elements: u32,
     ghost few_scalars: { scalars ≤ most_scalars },
     ghost few_arrays: { length lengths ≤ most_arrays },
@@ -31,6 +34,7 @@ pub(crate) struct Scopes {
 impl Scopes {
     ghost use Rattle.std.specs.Prelude.{◌≡◌, [], OnOk, IfOk, IfErr};
     ghost use Rattle.pc_check.specs.Names.{no_names, found, entered, with_scalar, with_array};
+    ghost use Rattle.pc_check.specs.InitialData.{data_of};
     ghost use Rattle.pc_check.specs.Faults.{scalar_faults, array_faults};
     ghost use Rattle.pc_check.specs.models.Resolves.{IsFirst};
     ghost use Rattle.pc_check.specs.models.View.{names_of, outwards};
@@ -44,6 +48,7 @@ impl Scopes {
             outer: Vec::new(alloc),
             scalars: 0,
             lengths: Seq::new(alloc),
+            initial: Seq::new(alloc),
             elements: 0,
         }
     }
@@ -96,18 +101,25 @@ impl Scopes {
         Ok(number)
     }
 
-    /// Declares an array of `size` elements, whose length stands at the line `at`, and gives its number.
+    /// Declares an array of `size` elements, whose length stands at the line `at`, with these values, and
+    /// gives its number.
+    #[tactic(auto, using(crate::proofs::FaultLaws::first_faults))]
     pub(crate) fn declare_array(
         &mut self,
+        alloc: Global,
         symbol: u32,
         line: u32,
         at: u32,
         size: u32,
+        values: &ConstList,
     ) -> Result<u8, CheckError>
-        ensures faultless { OnOk result (array_faults (names_of self.old) symbol line at size ≡ []) }
+        ensures faultless { OnOk result
+            (array_faults (names_of self.old) symbol line at size values.now ≡ []) }
         ensures number { IfOk result (λ number. number ≡ length self.old.lengths) }
-        ensures declared { OnOk result (names_of self.new ≡ with_array (names_of self.old) symbol size) }
-        ensures refused { IfErr result (λ e. IsFirst e (array_faults (names_of self.old) symbol line at size)) }
+        ensures declared { OnOk result
+            (names_of self.new ≡ with_array (names_of self.old) symbol size (data_of values.now)) }
+        ensures refused { IfErr result (λ e. IsFirst e
+            (array_faults (names_of self.old) symbol line at size values.now)) }
     {
         if self.innermost.contains_key(&symbol) {
             return Err(CheckError::Redeclared { line });
@@ -121,8 +133,11 @@ impl Scopes {
         if size > MOST_ELEMENTS - self.elements {
             return Err(CheckError::TooManyElements { line: at });
         }
+        check_values(size, values.as_slice())?;
+        let words = data_of(alloc, values.as_slice())?;
         let number = self.lengths.len() as u8;
         self.innermost.insert(symbol, Slot::Array { number })?;
+        self.initial.push(words)?;
         self.lengths.push(size)?;
         self.elements += size;
         Ok(number)
@@ -136,13 +151,14 @@ impl Scopes {
         self.scalars
     }
 
-    /// The lengths of the arrays that were declared.
-    pub(crate) fn into_lengths(self) -> LengthList
-        ensures value { result ≡ self.lengths }
-        ensures few { length result ≤ most_arrays }
-        ensures sized { IsTrue (list_all is_length result) }
-        ensures few_elements { sum result ≤ most_elements }
+    /// The lengths of the arrays that were declared, and their data.
+    pub(crate) fn into_arrays(self) -> (LengthList, DataList)
+        ensures lengths { result.0 ≡ self.lengths }
+        ensures data { result.1 ≡ self.initial }
+        ensures few { length result.0 ≤ most_arrays }
+        ensures sized { IsTrue (list_all is_length result.0) }
+        ensures few_elements { sum result.0 ≤ most_elements }
     {
-        self.lengths
+        (self.lengths, self.initial)
     }
 }

@@ -12,7 +12,7 @@ use crate::error::CheckError;
 use crate::expression::{array_slot, resolve_expression, resolve_optional, scalar_slot};
 use crate::measure::{assignment_need, need, optional_need};
 use crate::scopes::Scopes;
-use pc_syntax::{BinaryOp, Expr, Stmt, StmtList};
+use pc_syntax::{BinaryOp, ConstList, Expr, Stmt, StmtList};
 use pc_word::{MOST_TEMPORARIES, Seq};
 use std::alloc::Global;
 
@@ -84,28 +84,32 @@ fn check_scalar(
     })
 }
 
-/// The declaration of an array.
+/// The declaration of an array, with the values of its initialiser.
 #[tactic(auto, using(crate::proofs::Rules::statements), unfolding(crate::specs::Faults::statement_faults, crate::specs::Faults::names_behind, crate::specs::Resolution::resolved_statement))]
 fn check_array(
+    alloc: Global,
     scopes: &mut Scopes,
     symbol: u32,
     line: u32,
     at: u32,
     length: u32,
+    values: &ConstList,
 ) -> Result<Stmt, CheckError>
     ensures resolved { (in_loop : Bool) → IfOk result
-        (λ to. StatementResolves in_loop (ArrayDeclaration symbol line at length)
+        (λ to. StatementResolves in_loop (ArrayDeclaration symbol line at length values.now)
         (names_of scopes.old) (names_of scopes.new) (statement_of to)) }
     ensures refused { (in_loop : Bool) → IfErr result
-        (λ e. IsFirst e (statement_faults in_loop (ArrayDeclaration symbol line at length)
+        (λ e. IsFirst e (statement_faults in_loop (ArrayDeclaration symbol line at length values.now)
         (names_of scopes.old))) }
 {
-    let number = scopes.declare_array(symbol, line, at, length)?;
+    let number = scopes.declare_array(alloc, symbol, line, at, length, values)?;
+    let values = Seq::from_slice(alloc, values.as_slice())?;
     Ok(Stmt::Array {
         symbol: u32::from(number),
         line,
         at,
         length,
+        values,
     })
 }
 
@@ -296,7 +300,8 @@ fn check_written(
             line,
             at,
             length,
-        } => check_array(scopes, *symbol, *line, *at, *length),
+            values,
+        } => check_array(alloc, scopes, *symbol, *line, *at, *length, values),
         Stmt::Assign {
             symbol,
             line,

@@ -3,7 +3,7 @@ use Rattle.std.proofs.Common.{◌≡◌, ◌≢◌, ℕ, zero, suc, true, not, �
 use Rattle.std.specs.Prelude.{nat_eq, nat_lt, slice_get, is_none}
 use Rattle.pc_word.specs.declared.item.Operand.{Operand}
 use Rattle.pc_word.specs.declared.item.Operand.TheVariants.{Name, Lit}
-use Rattle.pc_word.specs.MachineLimits.{registers}
+use Rattle.pc_machine.specs.Registers.{most_registers}
 use Rattle.pc_word.proofs.Truth.{and_true, not_true, less_of}
 use Rattle.pc_copies.specs.declared.moves.Move.{Move}
 use Rattle.pc_copies.specs.Moves.{IsNamed, IsMoveSource, AreMoves}
@@ -13,8 +13,8 @@ use Rattle.pc_copies.proofs.Arranged.{missing}
 
 named : (scratch register : ℕ) → is_named scratch register ≡ true → IsNamed scratch register
 named scratch register e =
-    let parts = and_true (nat_lt register registers) (not (nat_eq register scratch)) e in
-    record { below = less_of register registers parts.0; other = λ same. true≢false (sym (eq-eqb register scratch same) ∙ not_true (nat_eq register scratch) parts.1) }
+    let parts = and_true (nat_lt register most_registers) (not (nat_eq register scratch)) e in
+    record { below = less_of register most_registers parts.0; other = λ same. true≢false (sym (eq-eqb register scratch same) ∙ not_true (nat_eq register scratch) parts.1) }
 
 sourced : (scratch : ℕ) (from : Operand) → is_source scratch from ≡ true → IsMoveSource scratch from
 sourced scratch (Name register) e = named scratch register e

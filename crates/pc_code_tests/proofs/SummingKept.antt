@@ -129,7 +129,7 @@ summing_keeps = record {
 pub summing_made : (table : Table) → table ≡ summing_table → TableKeeps table
 summing_made table is = subst TableKeeps (sym is) summing_keeps
 
-pub summing_short : object_bytes summing_table (λ region. None) ≤ most_object
+pub summing_short : object_bytes summing_table [] (λ region. None) ≤ most_object
 summing_short = omega arith
 
 pub ruleset kept = (summing_made)

@@ -2,12 +2,12 @@
 use Rattle.std.specs.Prelude.{ℕ, Bool, true, not, ◌&&◌, nat_eq, nat_lt, List, [], ◌∷◌, is_none}
 use Rattle.pc_word.specs.declared.item.Operand.{Operand}
 use Rattle.pc_word.specs.declared.item.Operand.TheVariants.{Name, Lit}
-use Rattle.pc_word.specs.MachineLimits.{registers}
+use Rattle.pc_machine.specs.Registers.{most_registers}
 use Rattle.pc_copies.specs.declared.moves.Move.{Move}
 use Rattle.pc_copies.specs.models.Sources.{source_in}
 
 abbrev pub is_named : ℕ → ℕ → Bool
-is_named scratch register = nat_lt register registers && not (nat_eq register scratch)
+is_named scratch register = nat_lt register most_registers && not (nat_eq register scratch)
 
 abbrev pub is_source : ℕ → Operand → Bool
 is_source scratch (Name register) = is_named scratch register

@@ -35,7 +35,7 @@ fn defining(
 }
 
 /// A row that defines as many names, counted down to 100, and then stops.
-fn defining_many(alloc: Global, count: u8) -> Result<RowTree<AutomatonLeaf>, AllocError> {
+fn defining_many(alloc: Global, count: u16) -> Result<RowTree<AutomatonLeaf>, AllocError> {
     let mut row = RowTree::Leaf {
         leaf: AutomatonLeaf::Stop,
     };
@@ -85,6 +85,15 @@ fn are(
         Some(Ok(registers)) => names
             .iter()
             .all(|pair| registers.register(state, pair.0) == pair.1),
+        Some(Err(_)) => false,
+        None => false,
+    }
+}
+
+/// Whether registers were given, and this one is left for moves.
+fn leaves(found: &Option<Result<Assigned, AssignError>>, scratch: u8) -> bool {
+    match found {
+        Some(Ok(registers)) => registers.scratch() == scratch,
         Some(Err(_)) => false,
         None => false,
     }
@@ -165,7 +174,7 @@ fn two_sides_of_a_test_share_registers(rt: HostRuntime) -> Result<(), Fail> {
 }
 
 /// What `assign` gives for a state without parameters that defines as many names.
-fn defined(alloc: Global, count: u8) -> Result<Option<Result<Assigned, AssignError>>, AllocError> {
+fn defined(alloc: Global, count: u16) -> Result<Option<Result<Assigned, AssignError>>, AllocError> {
     let row = defining_many(alloc, count)?;
     let first = made(alloc, &[], row)?;
     let states = listed(first, None, StateList::new(alloc))?;
@@ -173,11 +182,22 @@ fn defined(alloc: Global, count: u8) -> Result<Option<Result<Assigned, AssignErr
 }
 
 #[test]
-fn a_pressure_of_128_is_refused(rt: HostRuntime) -> Result<(), Fail> {
-    let most = defined(rt.alloc(), 127)?;
-    assert!(&rt; are(&most, 0, &[(226, Some(0)), (100, Some(126))]));
-    let more = defined(rt.alloc(), 128)?;
-    assert!(&rt; is_refused(&more, 0, 128));
+fn a_pressure_of_128_takes_more_registers(rt: HostRuntime) -> Result<(), Fail> {
+    let few = defined(rt.alloc(), 127)?;
+    assert!(&rt; leaves(&few, 127));
+    assert!(&rt; are(&few, 0, &[(226, Some(0)), (100, Some(126))]));
+    let most = defined(rt.alloc(), 128)?;
+    assert!(&rt; leaves(&most, 255));
+    assert!(&rt; are(&most, 0, &[(227, Some(0)), (100, Some(127))]));
+    Ok(())
+}
+
+#[test]
+fn a_pressure_of_256_is_refused(rt: HostRuntime) -> Result<(), Fail> {
+    let most = defined(rt.alloc(), 255)?;
+    assert!(&rt; are(&most, 0, &[(354, Some(0)), (100, Some(254))]));
+    let more = defined(rt.alloc(), 256)?;
+    assert!(&rt; is_refused(&more, 0, 256));
     Ok(())
 }
 
@@ -198,11 +218,15 @@ fn passed(alloc: Global, count: u32) -> Result<Option<Result<Assigned, AssignErr
 }
 
 #[test]
-fn a_state_with_128_parameters_is_refused(rt: HostRuntime) -> Result<(), Fail> {
-    let most = passed(rt.alloc(), 127)?;
-    assert!(&rt; are(&most, 1, &[(0, Some(0)), (126, Some(126))]));
-    let more = passed(rt.alloc(), 128)?;
-    assert!(&rt; is_refused(&more, 1, 128));
+fn a_state_with_256_parameters_is_refused(rt: HostRuntime) -> Result<(), Fail> {
+    let few = passed(rt.alloc(), 127)?;
+    assert!(&rt; leaves(&few, 127));
+    assert!(&rt; are(&few, 1, &[(0, Some(0)), (126, Some(126))]));
+    let most = passed(rt.alloc(), 255)?;
+    assert!(&rt; leaves(&most, 255));
+    assert!(&rt; are(&most, 1, &[(0, Some(0)), (254, Some(254))]));
+    let more = passed(rt.alloc(), 256)?;
+    assert!(&rt; is_refused(&more, 1, 256));
     Ok(())
 }
 

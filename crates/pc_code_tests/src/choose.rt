@@ -9,7 +9,7 @@ use pc_compile::{
     Cause, ChooseError, Chosen, Form, choose, law_of_choices, law_of_chosen_forms, laws_of_pace,
 };
 use pc_table::{Region, RegionList, RegionTable, RegionTree, VarList};
-use pc_word::{Extent, Item, LengthList, Limits, LoopList, LoopMark, OpCode, Operand};
+use pc_word::{DataList, Extent, Item, LengthList, Limits, LoopList, LoopMark, OpCode, Operand};
 use std::alloc::{AllocError, Global};
 use std::test::Fail;
 
@@ -114,7 +114,8 @@ fn chosen_within(alloc: Global, extent: Extent) -> Result<Chosen, ChooseError>
         tests: 1,
         mem: 1,
     };
-    choose(alloc, &table, limits, extent)
+    let initial = DataList::new(alloc);
+    choose(alloc, &table, &initial, limits, extent)
 }
 
 /// Whether the region with this number was taken at the same place and got a form, after these causes.

@@ -7,16 +7,19 @@ use pc_word::Operand::{Lit, Name};
 use std::alloc::Global;
 use std::test::Fail;
 
-/// The register that no move names.
-const SCRATCH: u32 = 127;
-
 /// Whether moves are arranged as these rows.
 #[tactic(auto, using(crate::proofs::Given::given_moves))]
-fn gives(alloc: Global, moves: &[Move], ops: u8, rows: &[&[Move]]) -> Result<bool, CopyError>
-    requires moves { are_given 127 moves.now ≡ true }
+fn gives_through(
+    alloc: Global,
+    scratch: u8,
+    moves: &[Move],
+    ops: u8,
+    rows: &[&[Move]],
+) -> Result<bool, CopyError>
+    requires moves { are_given scratch moves.now ≡ true }
     requires ops { 1 ≤ ops }
 {
-    let arranged = arrange(alloc, moves, ops, SCRATCH)?;
+    let arranged = arrange(alloc, moves, ops, scratch)?;
     if arranged.len() != rows.len() {
         return Ok(false);
     }
@@ -26,6 +29,14 @@ fn gives(alloc: Global, moves: &[Move], ops: u8, rows: &[&[Move]]) -> Result<boo
         }
     }
     Ok(true)
+}
+
+/// Whether moves are arranged as these rows, with register 127 as scratch.
+fn gives(alloc: Global, moves: &[Move], ops: u8, rows: &[&[Move]]) -> Result<bool, CopyError>
+    requires moves { are_given 127 moves.now ≡ true }
+    requires ops { 1 ≤ ops }
+{
+    gives_through(alloc, 127, moves, ops, rows)
 }
 
 /// The copy of a register.
@@ -129,6 +140,27 @@ fn cycles_go_through_scratch_or_into_one_row(rt: HostRuntime) -> Result<(), Fail
     assert!(rt; gives(alloc, &RING, 3, &[&RING])?);
     let behind: [&[Move]; 2] = [&[copy(2, 0)], &SWAP];
     assert!(rt; gives(alloc, &MIXED, 2, &behind)?);
+    Ok(())
+}
+
+/// Two registers above 127 change places.
+const HIGH: [Move; 2] = [
+    Move {
+        dest: 127,
+        from: Name(254),
+    },
+    Move {
+        dest: 254,
+        from: Name(127),
+    },
+];
+
+#[test]
+fn registers_above_127_go_through_the_last(rt: HostRuntime) -> Result<(), Fail> {
+    let alloc = rt.alloc();
+    let one_by_one: [&[Move]; 3] = [&[copy(255, 127)], &[copy(127, 254)], &[copy(254, 255)]];
+    assert!(rt; gives_through(alloc, 255, &HIGH, 1, &one_by_one)?);
+    assert!(rt; gives_through(alloc, 255, &HIGH, 2, &[&HIGH])?);
     Ok(())
 }
 

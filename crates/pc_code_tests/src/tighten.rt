@@ -1,8 +1,8 @@
 //! Rows that are made compact.
 
-use pc_machine::{Code, FEW_REGISTERS, Leaf, Tree, TreeList, no_data, well_formed};
+use pc_machine::{Code, FEW_REGISTERS, Leaf, Tree, TreeList, well_formed};
 use pc_tighten::{TightenError, tighten};
-use pc_word::{Item, LengthList, Limits, Operand, RowTree};
+use pc_word::{Item, LengthList, Limits, Operand, RowTree, no_data};
 use std::alloc::{AllocError, Global};
 use std::test::Fail;
 

@@ -1,5 +1,5 @@
 -- What the states of a search keep, and what comes of trying the form of one.
-use Rattle.std.proofs.Common.{◌≡◌, ℕ, suc, ◌+◌, ◌^◌, ◌<◌, ◌≤◌, List, length, sym, ◌∙◌, ap, subst, arith}
+use Rattle.std.proofs.Common.{◌≡◌, ℕ, suc, ◌+◌, ◌*◌, ◌^◌, ◌<◌, ◌≤◌, List, length, sym, ◌∙◌, ap, subst, arith}
 use Rattle.std.specs.Prelude.{nat_eq, true, Result, Ok, Err, IfOk, Option}
 use Rattle.std.specs.List.{list_any}
 use Rattle.pc_word.specs.declared.item.Limits.{Limits}
@@ -11,8 +11,8 @@ use Rattle.pc_table.specs.Table.{Table, region_live}
 use Rattle.pc_table.specs.TableKeeps.{TableKeeps}
 use Rattle.pc_automaton.specs.declared.automaton.AutomatonState.{AutomatonState as StoredState}
 use Rattle.pc_automaton.specs.Automaton.{AutomatonState, state_in, states_in}
-use Rattle.pc_assign.specs.Pressure.{allowed, IsFirstHigh, LowBefore}
-use Rattle.pc_assign.specs.Assigned.{IsAssigned, BeginsWithVariables}
+use Rattle.pc_assign.specs.Pressure.{most_scratch, IsFirstHigh, LowBefore}
+use Rattle.pc_assign.specs.Assigned.{Registers, IsAssigned, BeginsWithVariables}
 use Rattle.pc_assign.specs.declared.assigned.Assigned.{Assigned}
 use Rattle.pc_assign.specs.Stored.{registers_in}
 use Rattle.pc_pattern.specs.Searches.{Rules, HasNoPattern}
@@ -33,8 +33,8 @@ use Rattle.pc_word.proofs.Places.{map_length}
 -- ---- what the states of a search keep
 
 -- states that have a low pressure, one and all
-low_all : (automaton : List StoredState) → LowBefore (states_in automaton) (length automaton) → LowBefore (states_in automaton) (length (states_in automaton))
-low_all automaton low = subst (λ (n : ℕ). LowBefore (states_in automaton) n) (sym (map_length state_in automaton)) low
+low_all : (automaton : List StoredState) → LowBefore most_scratch (states_in automaton) (length automaton) → LowBefore most_scratch (states_in automaton) (length (states_in automaton))
+low_all automaton low = subst (λ (n : ℕ). LowBefore most_scratch (states_in automaton) n) (sym (map_length state_in automaton)) low
 
 module _ (rules : Rules) (keeps : TableKeeps rules.table) (region rows : ℕ) where
   pub found_begins : (states : List AutomatonState) → IsFound rules region rows states → BeginsWithVariables states
@@ -46,7 +46,7 @@ module _ (rules : Rules) (keeps : TableKeeps rules.table) (region rows : ℕ) wh
 
   -- low states of a search have few bytes
   pub found_short : AreLimits rules.limits → rows ≤ most_rows → (automaton : List StoredState) → IsFound rules region rows (states_in automaton)
-      → LowBefore (states_in automaton) (length automaton) → states_bytes (states_in automaton) ≤ most_object
+      → LowBefore most_scratch (states_in automaton) (length automaton) → states_bytes (states_in automaton) ≤ 2 * most_object
   found_short ranges most automaton found low =
       let few = found.few in
       states_short rules.table keeps rules.limits ranges (states_in automaton) found.automaton (low_all automaton low) found.there found.fits
@@ -63,7 +63,7 @@ found_few rules region rows most automaton found =
 module _ (rules : Rules) (region rows : ℕ) where
   -- states that registers were given to
   registers_given : (automaton : List StoredState) (registers : Assigned) → IsFound rules region rows (states_in automaton)
-      → LowBefore (states_in automaton) (length automaton) → IsAssigned (states_in automaton) (registers_in registers)
+      → LowBefore most_scratch (states_in automaton) (length automaton) → IsAssigned (states_in automaton) (registers_in registers)
       → HasRegisters rules region rows (states_in automaton) (registers_in registers)
   registers_given automaton registers found low assigned = record { found = found; low = low_all automaton low; assigned = assigned }
 
@@ -74,14 +74,14 @@ module _ (rules : Rules) (region rows : ℕ) where
 
     pub tried_live : (answer : Result Attempt OutOfMemory) (automaton : List StoredState) (number live : ℕ)
         → IsFound rules region rows (states_in automaton) → IsFirstHigh (states_in automaton) number live
-        → IfOk answer (λ attempt. attempt ≡ Refused (Live live allowed)) → IfOk answer (IsAttempt rules region rows counts)
+        → IfOk answer (λ attempt. attempt ≡ Refused (Live live most_scratch)) → IfOk answer (IsAttempt rules region rows counts)
     tried_live (Ok attempt) automaton number live found high refused = subst (IsAttempt rules region rows counts) (sym refused) (High_pressure found high)
     tried_live (Err error) automaton number live found high refused = tt
 
   -- where all else has so many bytes
   module _ (others : ℕ) where
     pub tried_bytes : (table : Table) (attempt : Attempt) (automaton : List StoredState) (registers : Assigned) (bytes : ℕ)
-        → IsFound rules region rows (states_in automaton) → LowBefore (states_in automaton) (length automaton)
+        → IsFound rules region rows (states_in automaton) → LowBefore most_scratch (states_in automaton) (length automaton)
         → IsAssigned (states_in automaton) (registers_in registers) → bytes ≡ others + states_bytes (states_in automaton)
         → most_object < bytes → attempt ≡ Refused (Bytes bytes most_object) → IsAttempt rules region rows (bytes_of table region others) attempt
     tried_bytes table attempt automaton registers bytes found low assigned is many refused =
@@ -89,7 +89,7 @@ module _ (rules : Rules) (region rows : ℕ) where
         (Many_bytes (registers_given automaton registers found low assigned) (subst (λ (n : ℕ). most_object < n) is many))
 
     pub tried_fits : (table : Table) (automaton : List StoredState) (registers : Assigned) (bytes : ℕ)
-        → IsFound rules region rows (states_in automaton) → LowBefore (states_in automaton) (length automaton)
+        → IsFound rules region rows (states_in automaton) → LowBefore most_scratch (states_in automaton) (length automaton)
         → IsAssigned (states_in automaton) (registers_in registers) → bytes ≡ others + states_bytes (states_in automaton)
         → bytes ≤ most_object → length automaton < 2 ^ 32
         → IsAttempt rules region rows (bytes_of table region others) (Fits automaton registers bytes)
@@ -102,7 +102,7 @@ module _ (rules : Rules) (region rows : ℕ) where
 
 -- the states of a form were found by a search, within its number of rows
 pub form_found : (table : Table) (limits : Limits) (extent : Extent) (region : ℕ) (bytes : RegionForm → ℕ) (states : List AutomatonState)
-    (registers : ℕ → ℕ → Option ℕ) (kind : Form) (causes : List Cause) → Gets table limits extent region bytes (ByAutomaton states registers) kind causes
+    (registers : Registers) (kind : Form) (causes : List Cause) → Gets table limits extent region bytes (ByAutomaton states registers) kind causes
     → (number : ℕ) × (rows : ℕ) × HasRegisters (rules_for table limits number) region rows states registers
 form_found table limits extent region bytes states registers kind causes (Gets_pipelined may has short) = (extent.window, extent.rows, has)
 form_found table limits extent region bytes states registers kind causes (Gets_packed passed has short) = (1, most_rows, has)

@@ -1,4 +1,5 @@
 -- A region that is a trap alone is never refused, so it is never plain.
+use Rattle.std.specs.Prelude.{ℤ}
 use Rattle.std.proofs.Common.{◌≡◌, ℕ, zero, suc, ◌<◌, ◌≤◌, List, [], ◌∷◌, length, Option, Some, None, refl, sym, ◌∙◌, ap, subst, arith}
 use Rattle.pc_word.specs.declared.item.Limits.{Limits}
 use Rattle.pc_word.specs.declared.item.Extent.{Extent}
@@ -10,6 +11,7 @@ use Rattle.pc_assign.specs.Pressure.{pressure_of, IsFirstHigh}
 use Rattle.pc_pattern.specs.Searches.{HasNoPattern}
 use Rattle.pc_pattern.specs.Pattern.{IsFound}
 use Rattle.pc_pattern.specs.Laws.{trap_state}
+use Rattle.pc_assign.specs.Assigned.{Registers}
 use Rattle.pc_emit.specs.Emitted.{RegionForm, Plain, ByAutomaton}
 use Rattle.pc_emit.specs.Bytes.{states_bytes, plain_bytes, object_bytes}
 use Rattle.pc_compile.specs.declared.choice.Cause.{Cause}
@@ -30,24 +32,24 @@ trap_is_low kind line (suc number) live high = let there : None ≡ Some high.st
 trap_is_short : (kind : TrapKind) (line : ℕ) → states_bytes (trap_state kind line ∷ []) ≡ plain_bytes (Traps_here kind line)
 trap_is_short kind line = refl
 
-module _ (table : Table) (limits : Limits) (extent : Extent) (region line : ℕ) (kind : TrapKind) (is : region_tree table region ≡ Traps_here kind line)
+module _ (table : Table) (initial : List (List ℤ)) (limits : Limits) (extent : Extent) (region line : ℕ) (kind : TrapKind) (is : region_tree table region ≡ Traps_here kind line)
     (never : HasNoPattern (packs table limits) region most_rows → ⊥)
     (alone : (states : List AutomatonState) → IsFound (packs table limits) region most_rows states → states ≡ trap_state kind line ∷ [])
-    (forms : ℕ → Option RegionForm) (there : region < length table.regions) (free : forms region ≡ None) (short : object_bytes table forms ≤ most_object) where
-  no_longer : (states : List AutomatonState) (registers : ℕ → ℕ → Option ℕ) → states ≡ trap_state kind line ∷ []
-      → bytes_with table forms region (ByAutomaton states registers) ≡ object_bytes table forms
+    (forms : ℕ → Option RegionForm) (there : region < length table.regions) (free : forms region ≡ None) (short : object_bytes table initial forms ≤ most_object) where
+  no_longer : (states : List AutomatonState) (registers : Registers) → states ≡ trap_state kind line ∷ []
+      → bytes_with table initial forms region (ByAutomaton states registers) ≡ object_bytes table initial forms
   no_longer states registers one =
-      let counted = counted_with table forms region there free (ByAutomaton states registers) in
-      let within = plain_within table forms region there free in
+      let counted = counted_with table initial forms region there free (ByAutomaton states registers) in
+      let within = plain_within table initial forms region there free in
       let same : states_bytes states ≡ plain_bytes (region_tree table region) = ap states_bytes one ∙ trap_is_short kind line ∙ ap plain_bytes (sym is) in
       omega (arith, counted, within, same)
 
-  not_refused : (cause : Cause) → IsFormRefused (packs table limits) region most_rows (bytes_with table forms region) cause → ⊥
+  not_refused : (cause : Cause) → IsFormRefused (packs table limits) region most_rows (bytes_with table initial forms region) cause → ⊥
   not_refused cause (Many_rows none) = never none
   not_refused cause (High_pressure {states} {number} {live} found high) =
       trap_is_low kind line number live (subst (λ (s : List AutomatonState). IsFirstHigh s number live) (alone states found) high)
   not_refused cause (Many_bytes {states} {registers} has many) =
       let same = no_longer states registers (alone states has.found) in omega (arith, many, same, short)
 
-  pub trap_not_plain : (form : Form) (causes : List Cause) → Gets table limits extent region (bytes_with table forms region) Plain form causes → ⊥
+  pub trap_not_plain : (form : Form) (causes : List Cause) → Gets table limits extent region (bytes_with table initial forms region) Plain form causes → ⊥
   trap_not_plain form causes (Gets_plain {cause = cause} passed refused) = not_refused cause refused

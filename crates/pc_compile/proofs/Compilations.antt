@@ -1,7 +1,7 @@
 -- A program's graph, its regions and their rows, put together.
-use Rattle.std.proofs.Common.{◌≡◌, inl, ℕ, ◌≤◌, true, List, [], ◌∷◌, length, replicate, sum, Option, None, refl, sym, ◌∙◌, ap, subst, arith}
+use Rattle.std.proofs.Common.{◌≡◌, inr, ℕ, ◌≤◌, true, List, [], ◌∷◌, length, replicate, sum, Option, None, refl, sym, ◌∙◌, ap, subst, arith}
 use Rattle.std.specs.Prelude.{nat_le, All, ℤ}
-use Rattle.std.specs.List.{AllByRecursion, list_all}
+use Rattle.std.specs.List.{AllByRecursion, list_all, flat_map}
 use Rattle.std.proofs.lemmas.Bool.Decides.{nat_tests}
 use Rattle.std.proofs.lemmas.Option.{slice_get_within}
 use Rattle.pc_word.specs.declared.item.Extent.{Extent}
@@ -24,16 +24,17 @@ use Rattle.pc_lower.specs.SourceLoops.{SourceLoop}
 use Rattle.pc_lower.proofs.Bounds.{list-loops_sized}
 use Rattle.pc_lower.proofs.LoopMarks.{as_many_marks}
 use Rattle.pc_lower.proofs.Numbered.{loops_counted}
-use Rattle.pc_machine.specs.MachineCode.{CodeRow, RowCode, code_without_data}
+use Rattle.pc_machine.specs.MachineCode.{CodeRow, RowCode}
 use Rattle.pc_machine.specs.MachineRun.{machine_run}
-use Rattle.pc_machine.specs.Registers.{few_registers}
+use Rattle.pc_machine.specs.Registers.{few_registers, most_registers}
 use Rattle.pc_machine.specs.WellFormed.{AreArrays, WellFormed}
-use Rattle.pc_machine.specs.Data.{has_no_data}
-use Rattle.pc_machine.proofs.Data.{no_data-replicate, AreData-none}
+use Rattle.pc_word.specs.Data.{AreData}
 use Rattle.pc_word.specs.Ranges.{IsBetween, AreLimits}
 use Rattle.pc_object.specs.declared.object.Note.{Note}
-use Rattle.pc_object.specs.ObjectText.{CodeWithNotes, IsChoice}
+use Rattle.pc_object.specs.ObjectText.{CodeWithNotes, row_text, IsChoice}
 use Rattle.pc_pass.specs.Pass.{Keeps}
+use Rattle.pc_tighten.specs.Compact.{Compact}
+use Rattle.pc_tighten.specs.Removals.{HasNoGotoAlone}
 use Rattle.pc_tighten.specs.Tightened.{EachIsReachable, IsTightened}
 use Rattle.pc_table.specs.Table.{Table}
 use Rattle.pc_table.specs.TableKeeps.{TableKeeps}
@@ -41,15 +42,18 @@ use Rattle.pc_table.specs.RegionRun.{table_run}
 use Rattle.pc_regions.specs.Cut.{IsCutOf}
 use Rattle.pc_window.proofs.Paces.{NeverFaults-follows}
 use Rattle.pc_emit.specs.declared.form.RegionForm.{RegionForm as StoredForm}
-use Rattle.pc_emit.specs.Bytes.{object_bytes}
-use Rattle.pc_emit.specs.Emitting.{region_forms, emission_of, AreEmitted}
+use Rattle.pc_emit.specs.Bytes.{regions_bytes, object_bytes}
+use Rattle.pc_emit.specs.Emitting.{region_forms, emission_of, AreEnough, AreEmitted}
 use Rattle.pc_emit.proofs.Emissions.{emitted_rows_do}
 use Rattle.pc_compile.specs.declared.choice.Choice.{Choice}
 use Rattle.pc_compile.specs.Choosing.{AreChosen}
-use Rattle.pc_compile.proofs.Emittable.{are_forms, form_is}
+use Rattle.pc_compile.proofs.Emittable.{are_forms, form_is, chosen_is_short}
 use Rattle.pc_compile.proofs.Paces.{emitted_rows_keep_pace, tightened_codes_keep_pace}
 use Rattle.pc_compile.specs.Notes.{notes_of}
 use Rattle.pc_compile.specs.Compiled.{IsCompiled}
+use Rattle.pc_compile.specs.Pace.{KeepsPaceOn}
+use Rattle.pc_compile.specs.Registers.{loose_code, fitted}
+use Rattle.pc_compile.proofs.FittedCodes.{fitted_form, fitted_compact, above_room, few_for_fewer}
 use Rattle.pc_compile.proofs.Counts.{all_units}
 use Rattle.pc_compile.specs.models.Made.{IsObjectOf}
 use Rattle.pc_compile.proofs.Origins.{few_units, few_regions}
@@ -72,7 +76,7 @@ are_arrays arrays few sized elements = record { count = few; each = lengths_betw
 
 -- the regions of a program's graph have no more items and tests, are no more and have no more loops than a graph may have nodes
 module _ (program : ResolvedProgram) (first flow : FlowGraph) (table : Table) (lowered : IsLowered program first) (kept : Keeps first flow)
-    (cut : IsCutOf flow table) where
+    (cut : IsCutOf flow table) (fits : AreData program.arrays program.initial) (elements : sum program.arrays ≤ most_elements) where
   few_nodes : length flow.nodes ≤ most_nodes
   few_nodes =
       let as_many = kept.as_many in
@@ -96,9 +100,19 @@ module _ (program : ResolvedProgram) (first flow : FlowGraph) (table : Table) (l
       let few = lowered.few in
       omega (arith, same, marks, loops, counted, sized, few)
 
+  -- the arrays are the program's, and so are their data
+  same_arrays : table.arrays ≡ program.arrays
+  same_arrays = cut.arrays ∙ kept.same_arrays ∙ lowered.arrays
+
+  pub same_initial : flow.initial ≡ program.initial
+  same_initial = kept.same_initial ∙ lowered.initial
+
   -- so its object is short with all regions plain
-  pub all_plain_is_short : TableKeeps table → object_bytes table (λ region. None) ≤ most_object
-  all_plain_is_short keeps = plain_is_short table few_regions_in_all few_units_in_all few_loops_in_all keeps.few_arrays
+  pub all_plain_is_short : TableKeeps table → object_bytes table flow.initial (λ region. None) ≤ most_object
+  all_plain_is_short keeps =
+      plain_is_short table flow.initial few_regions_in_all few_units_in_all few_loops_in_all keeps.few_arrays
+      (subst (λ (arrays : List ℕ). AreData arrays flow.initial) (sym same_arrays) (subst (λ (words : List (List ℤ)). AreData program.arrays words) (sym same_initial) fits))
+      (subst (λ (arrays : List ℕ). sum arrays ≤ most_elements) (sym same_arrays) elements)
 
 -- a run that agrees with a program's never faults
 pub never_faults : (program : ResolvedProgram) (runs : List ℤ → Run) → AgreeOnInputs runs (source_run program) → (input : List ℤ) → All IsWord input
@@ -106,51 +120,60 @@ pub never_faults : (program : ResolvedProgram) (runs : List ℤ → Run) → Agr
 never_faults program runs agree input words =
     NeverFaults-follows (runs input) (source_run program input) (agree input words).forth (λ n fault. source_run-faultless program input n fault)
 
--- it has no data
-without_data : (table : Table) (initial : List (List ℤ)) → initial ≡ replicate (length table.arrays) [] → has_no_data initial ≡ true
-without_data table initial none = ap has_no_data none ∙ no_data-replicate (length table.arrays)
-
 -- the object that is made of the cut of a graph, which passes made of the program's, in the forms that were chosen, is the
 -- program's
 pub is_compiled : (program : ResolvedProgram) (Passed : FlowGraph → FlowGraph → Type 0) (limits : Limits) (extent : Extent) (first flow : FlowGraph) (table : Table)
     (forms : List (Option StoredForm)) (choices : List Choice) (object : CodeWithNotes) → AreLimits limits
-    → IsLowered program first → Passed first flow → Keeps first flow → IsCutOf flow table → TableKeeps table → AgreeOnInputs (table_run table) (flow_run flow)
-    → AreChosen table limits extent choices (region_forms forms) → IsObjectOf table forms choices limits object
+    → AreData program.arrays program.initial → sum program.arrays ≤ most_elements
+    → IsLowered program first → Passed first flow → Keeps first flow → IsCutOf flow table → TableKeeps table
+    → AgreeOnInputs (table_run table flow.initial) (flow_run flow)
+    → AreChosen table flow.initial limits extent choices (region_forms forms) → IsObjectOf table flow.initial forms choices limits object
     → IsCompiled program Passed limits extent flow table choices object
-is_compiled program Passed limits extent first flow table forms choices object fine lowered passed kept cut keeps cut_agrees chosen made =
+is_compiled program Passed limits extent first flow table forms choices object fine fits elements lowered passed kept cut keeps cut_agrees chosen made =
     let emitted = made.emitted in
     let tightened = made.tightened in
+    let tight = made.tight in
+    let initial = flow.initial in
     let e = emission_of table forms emitted.entries limits.ops in
-    let loose = code_without_data limits table.arrays made.loose in
+    let loose = loose_code limits table initial made.loose in
     let same_arrays = cut.arrays ∙ kept.same_arrays ∙ lowered.arrays in
-    let plain = all_plain_is_short program first flow table lowered kept cut keeps in
-    let may = are_forms table keeps limits extent plain choices (region_forms forms) chosen in
-    let each = form_is table keeps limits extent plain choices (region_forms forms) chosen in
+    let plain = all_plain_is_short program first flow table lowered kept cut fits elements keeps in
+    let may = are_forms table keeps initial limits extent plain choices (region_forms forms) chosen in
+    let each = form_is table keeps initial limits extent plain choices (region_forms forms) chosen in
     let of_flow = AgreeOnInputs-trans (flow_run flow) (flow_run first) (source_run program) kept.agrees lowered.agree in
-    let of_table = AgreeOnInputs-trans (table_run table) (flow_run flow) (source_run program) cut_agrees of_flow in
-    let of_rows = emitted_rows_do e keeps limits made.loose emitted.are each (never_faults program (table_run table) of_table) in
-    let of_loose = AgreeOnInputs-trans (machine_run loose) (table_run table) (source_run program) of_rows of_table in
-    let of_object : AgreeOnInputs (machine_run loose) (machine_run object.code) =
-    λ input words. (tightened.runs input (never_faults program (machine_run loose) of_loose input words)).agree in
+    let of_table = AgreeOnInputs-trans (table_run table initial) (flow_run flow) (source_run program) cut_agrees of_flow in
+    let never = never_faults program (table_run table initial) of_table in
+    let of_rows = emitted_rows_do e keeps limits most_registers initial made.loose emitted.are each never in
+    let of_loose = AgreeOnInputs-trans (machine_run loose) (table_run table initial) (source_run program) of_rows of_table in
+    let never_loose = never_faults program (machine_run loose) of_loose in
+    let of_tight : AgreeOnInputs (machine_run loose) (machine_run tight) =
+    λ input words. (tightened.runs input (never_loose input words)).agree in
+    let agree : AgreeOnInputs (source_run program) (machine_run tight) =
+    AgreeOnInputs-trans (source_run program) (machine_run loose) (machine_run tight)
+    (AgreeOnInputs-sym (machine_run loose) (source_run program) of_loose) of_tight in
     let few = few_notes table choices in
-    let loops = few_loops_in_all program first flow table lowered kept cut in
+    let loops = few_loops_in_all program first flow table lowered kept cut fits elements in
     let as_many = ap (λ (l : List Note). length l) made.notes in
-    let short = no_longer object.code.rows made.loose (tightened.room text_room) in
+    let short = no_longer tight.rows made.loose (tightened.room text_room) in
     let counted = emitted.short in
     let reachable : EachIsReachable made.loose =
     λ i row there. emitted.reached i (slice_get_within made.loose i row there) in
+    let is : fitted tight ≡ object.code = sym made.code in
+    let form = subst WellFormed is (fitted_form tight tightened.form (registers_are tightened.registers)) in
     record {
-      agree = AgreeOnInputs-trans (source_run program) (machine_run loose) (machine_run object.code)
-          (AgreeOnInputs-sym (machine_run loose) (source_run program) of_loose) of_object;
+      agree = subst (λ (code : RowCode). AgreeOnInputs (source_run program) (machine_run code)) is agree;
       is_object = record {
-        code = tightened.form;
+        code = form;
         choices = subst (AllByRecursion IsChoice) (sym made.notes) (known_notes table choices);
         few_notes = omega (arith, as_many, few, loops);
-        few_bytes = object_is_short table (region_forms forms) choices object tightened.registers (without_data table object.code.initial tightened.initial)
-            tightened.arrays made.notes (omega (arith, short, counted)) may.short;
+        few_bytes = object_is_short table initial (region_forms forms) choices object (sym (ap (λ (code : RowCode). code.arrays) is) ∙ tightened.arrays)
+            (sym (ap (λ (code : RowCode). code.initial) is) ∙ tightened.initial) made.notes
+            (subst (λ (code : RowCode). length (flat_map row_text code.rows) ≤ regions_bytes (region_forms forms) 0 table.regions) is (omega (arith, short, counted)))
+            (chosen_is_short table keeps initial limits extent plain choices (region_forms forms) chosen);
       };
-      limited = tightened.limits;
-      arrays = tightened.arrays ∙ same_arrays;
+      limited = sym (ap (λ (code : RowCode). code.limits) is) ∙ tightened.limits;
+      arrays = sym (ap (λ (code : RowCode). code.arrays) is) ∙ tightened.arrays ∙ same_arrays;
+      initial = sym (ap (λ (code : RowCode). code.initial) is) ∙ tightened.initial ∙ kept.same_initial ∙ lowered.initial;
       first = first;
       lowered = lowered;
       passed = passed;
@@ -161,54 +184,63 @@ is_compiled program Passed limits extent first flow table forms choices object f
       chosen = chosen;
       loose = made.loose;
       emitted = emitted;
+      tight = tight;
       tightened = tightened;
-      reached = tightened.reachable reachable;
-      compact = tightened.compact reachable;
-      no_goto_alone = tightened.no_goto_alone;
+      code = made.code;
+      few = λ enough.
+          let fit = emitted.fit few_registers enough in
+          sym (ap (λ (code : RowCode). code.registers) is) ∙ few_for_fewer limits (length table.arrays) (length made.loose) tight.rows made.loose (tightened.room (above_room few_registers)) fit;
+      reached = subst (λ (code : RowCode). EachIsReachable code.rows) is (tightened.reachable reachable);
+      compact = subst Compact is (fitted_compact tight (tightened.compact reachable));
+      no_goto_alone = subst (λ (code : RowCode). HasNoGotoAlone code.rows) is tightened.no_goto_alone;
       pace = λ input words.
-          tightened_codes_keep_pace table (region_forms forms) loose object.code tightened input (never_faults program (machine_run loose) of_loose input words)
-          (emitted_rows_keep_pace e keeps limits made.loose refl emitted.are emitted.first_row each input);
+          subst (λ (code : RowCode). KeepsPaceOn table (region_forms forms) code input) is
+          (tightened_codes_keep_pace table (region_forms forms) loose tight tightened input (never_loose input words)
+          (emitted_rows_keep_pace e keeps limits most_registers initial made.loose refl emitted.are emitted.first_row each input));
       notes = made.notes;
     }
+  where
+    registers_are : {registers : ℕ} → registers ≡ most_registers → registers ≡ most_registers
+    registers_are e = e
 
 -- ---- the code that is tightened
 
--- a code of these parts, on the fewer registers
+-- a code of these parts, on the most registers
 abbrev code_of_parts : Limits → List ℕ → List (List ℤ) → List CodeRow → RowCode
-code_of_parts limits arrays initial rows = record { limits = limits; registers = few_registers; arrays = arrays; initial = initial; rows = rows }
+code_of_parts limits arrays initial rows = record { limits = limits; registers = most_registers; arrays = arrays; initial = initial; rows = rows }
 
--- over these arrays it has no data
-is_without_data : (limits : Limits) (table : Table) (arrays : List ℕ) (initial : List (List ℤ)) (rows : List CodeRow) → arrays ≡ table.arrays
-    → initial ≡ replicate (length table.arrays) [] → code_of_parts limits arrays initial rows ≡ code_without_data limits table.arrays rows
-is_without_data limits table arrays initial rows same none =
-    ap (λ (l : List ℕ). code_of_parts limits l initial rows) same ∙ ap (λ (d : List (List ℤ)). code_of_parts limits table.arrays d rows) none
-
--- no words for as many arrays as there are
-pub none_for_each : (initial : List (List ℤ)) (many count : ℕ) → initial ≡ replicate many [] → many ≡ count → initial ≡ replicate count []
-none_for_each initial many count none same = none ∙ ap (λ (n : ℕ). replicate n []) same
+-- over these arrays it is the one that is tightened
+is_loose : (limits : Limits) (table : Table) (words : List (List ℤ)) (arrays : List ℕ) (initial : List (List ℤ)) (rows : List CodeRow) → arrays ≡ table.arrays
+    → initial ≡ words → code_of_parts limits arrays initial rows ≡ loose_code limits table words rows
+is_loose limits table words arrays initial rows same begins =
+    ap (λ (l : List ℕ). code_of_parts limits l initial rows) same ∙ ap (λ (d : List (List ℤ)). code_of_parts limits table.arrays d rows) begins
 
 -- rows that were emitted may be tightened
-pub loose_is_well_formed : (table : Table) (forms : List (Option StoredForm)) (limits : Limits) (arrays : List ℕ) (initial : List (List ℤ)) (rows : List CodeRow)
-    → AreLimits limits → AreArrays table.arrays → arrays ≡ table.arrays → initial ≡ replicate (length table.arrays) [] → AreEmitted table forms limits rows
+pub loose_is_well_formed : (table : Table) (words : List (List ℤ)) (forms : List (Option StoredForm)) (limits : Limits) (arrays : List ℕ) (initial : List (List ℤ))
+    (rows : List CodeRow) → AreLimits limits → AreArrays table.arrays → AreData table.arrays words → arrays ≡ table.arrays → initial ≡ words
+    → AreEnough most_registers (region_forms forms) → AreEmitted table forms limits rows
     → WellFormed (code_of_parts limits arrays initial rows)
-loose_is_well_formed table forms limits arrays initial rows fine sized same none emitted =
-    subst (λ (code : RowCode). WellFormed code) (sym (is_without_data limits table arrays initial rows same none)) (record {
+loose_is_well_formed table words forms limits arrays initial rows fine sized fit same begins enough emitted =
+    subst (λ (code : RowCode). WellFormed code) (sym (is_loose limits table words arrays initial rows same begins)) (record {
       limits = fine;
-      registers = inl refl;
+      registers = inr refl;
       arrays = sized;
-      initial = AreData-none table.arrays;
+      initial = fit;
       entry = emitted.some;
-      rows = emitted.fit;
+      rows = emitted.fit most_registers enough;
     })
 
--- a code that was tightened, with these notes, is the object of a table in forms that were chosen
-pub made_object : (table : Table) (limits : Limits) (forms given : List (Option StoredForm)) (choices noted : List Choice) (arrays : List ℕ)
-    (initial : List (List ℤ)) (rows : List CodeRow) (code : RowCode) (notes : List Note) → arrays ≡ table.arrays → initial ≡ replicate (length table.arrays) []
+-- a code that was tightened, with as many registers as it needs and these notes, is the object of a table in forms that were chosen
+pub made_object : (table : Table) (words : List (List ℤ)) (limits : Limits) (forms given : List (Option StoredForm)) (choices noted : List Choice)
+    (arrays : List ℕ) (initial : List (List ℤ)) (rows : List CodeRow) (tight code : RowCode) (notes : List Note) → arrays ≡ table.arrays → initial ≡ words
     → notes ≡ notes_of table noted → noted ≡ choices → AreEmitted table given limits rows → given ≡ forms
-    → IsTightened (code_of_parts limits arrays initial rows) code → IsObjectOf table forms choices limits (record { code = code; notes = notes })
-made_object table limits forms given choices noted arrays initial rows code notes same_arrays none are same emitted same_forms tightened = record {
+    → IsTightened (code_of_parts limits arrays initial rows) tight → code ≡ fitted tight
+    → IsObjectOf table words forms choices limits (record { code = code; notes = notes })
+made_object table words limits forms given choices noted arrays initial rows tight code notes same_arrays begins are same emitted same_forms tightened is = record {
   loose = rows;
   emitted = subst (λ (l : List (Option StoredForm)). AreEmitted table l limits rows) same_forms emitted;
-  tightened = subst (λ (before : RowCode). IsTightened before code) (is_without_data limits table arrays initial rows same_arrays none) tightened;
+  tight = tight;
+  tightened = subst (λ (before : RowCode). IsTightened before tight) (is_loose limits table words arrays initial rows same_arrays begins) tightened;
+  code = is;
   notes = are ∙ ap (λ (l : List Choice). notes_of table l) same;
 }

@@ -5,17 +5,17 @@ use Rattle.std.specs.List.{AllByRecursion}
 use Rattle.pc_word.specs.declared.item.Operand.{Operand}
 use Rattle.pc_window.specs.declared.home.Home.{Home}
 use Rattle.pc_copies.specs.declared.moves.Move.{Move}
-use Rattle.pc_copies.specs.Moves.{IsCopyRow, copies_in, IsArranged}
+use Rattle.pc_copies.specs.Moves.{IsCopyRow, nontrivial_moves, one_names, copies_in, IsArranged}
 use Rattle.pc_emit.specs.Registers.{argument_moves, home_moves}
 use Rattle.pc_emit.proofs.FewCopies.{kept_few, copies_few}
 use Rattle.pc_compile.specs.ScheduleRun.{passing_cost}
 
 -- each row has a copy
-rows_few : (ops scratch : ℕ) (copies : List (List Move)) → AllByRecursion (IsCopyRow ops scratch) copies → length copies ≤ copies_in copies
-rows_few ops scratch [] fit = omega arith
-rows_few ops scratch (row ∷ rows) fit =
+rows_few : (named : ℕ → Bool) (ops scratch : ℕ) (copies : List (List Move)) → AllByRecursion (IsCopyRow named ops scratch) copies → length copies ≤ copies_in copies
+rows_few named ops scratch [] fit = omega arith
+rows_few named ops scratch (row ∷ rows) fit =
     let some = fit.0.some in
-    let rest = rows_few ops scratch rows fit.1 in
+    let rest = rows_few named ops scratch rows fit.1 in
     omega (arith, some, rest)
 
 -- a test of numbers that passes tells their order
@@ -26,7 +26,7 @@ at_most n m e = grind (arith, e)
 pub passing_few : (moves : List Move) (ops scratch : ℕ) (copies : List (List Move)) → IsArranged moves ops scratch copies → (passed : ℕ) → length moves ≤ passed
     → suc (length copies) ≤ passing_cost ops passed
 passing_few moves ops scratch copies arranged zero few =
-    let rows = rows_few ops scratch copies arranged.rows_fit in
+    let rows = rows_few (one_names (nontrivial_moves moves)) ops scratch copies arranged.rows_fit in
     let all = copies_few moves (copies_in copies) arranged.copies in
     omega (arith, few, rows, all)
 passing_few moves ops scratch copies arranged (suc more) few = by_test (nat_le (suc more) ops) refl
@@ -38,7 +38,7 @@ passing_few moves ops scratch copies arranged (suc more) few = by_test (nat_le (
         let one = arranged.one (omega (arith, fit, all, few)) in
         omega (arith, one)
     by_test false e =
-        let rows = rows_few ops scratch copies arranged.rows_fit in
+        let rows = rows_few (one_names (nontrivial_moves moves)) ops scratch copies arranged.rows_fit in
         let all = copies_few moves (copies_in copies) arranged.copies in
         omega (arith, few, rows, all)
 

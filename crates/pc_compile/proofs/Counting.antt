@@ -1,6 +1,8 @@
 -- The bytes of an object where one region gets a form.
 use Rattle.std.proofs.Common.{◌≡◌, ◌≢◌, ℕ, zero, suc, ◌+◌, ◌*◌, ◌-◌, ◌<◌, ◌≤◌, cond, List, [], ◌∷◌, length, Option, Some, None, refl, ◌∙◌, ap, arith}
-use Rattle.std.specs.Prelude.{slice_get}
+use Rattle.std.specs.Prelude.{ℤ, slice_get}
+use Rattle.pc_object.specs.Sizes.{initial_bytes}
+use Rattle.pc_object.specs.declared.version.Version.TheVariants.{Ptv2}
 use Rattle.pc_table.specs.Table.{TableTree, TableRegion, Table, tree_of, region_tree}
 use Rattle.pc_emit.specs.Emitted.{RegionForm, Plain}
 use Rattle.pc_emit.specs.Bytes.{plain_bytes, form_bytes, regions_bytes, object_bytes}
@@ -79,16 +81,17 @@ all_plain number (region ∷ regions) = ap (λ (n : ℕ). plain_bytes region.tre
 -- ---- objects
 
 -- an object whose regions are all plain
-pub plain_object : (table : Table)
-    → object_bytes table (λ region. None) ≡ 12 + 4 * length table.arrays + (all_plain_bytes table.regions + (2 + 13 * length table.loops))
-plain_object table = let plain = all_plain 0 table.regions in omega (arith, plain)
+pub plain_object : (table : Table) (initial : List (List ℤ))
+    → object_bytes table initial (λ region. None)
+    ≡ 14 + (4 * length table.arrays + initial_bytes Ptv2 initial) + (all_plain_bytes table.regions + (2 + 13 * length table.loops))
+plain_object table initial = let plain = all_plain 0 table.regions in omega (arith, plain)
 
-module _ (table : Table) (forms : ℕ → Option RegionForm) (region : ℕ) (there : region < length table.regions) (free : forms region ≡ None) where
+module _ (table : Table) (initial : List (List ℤ)) (forms : ℕ → Option RegionForm) (region : ℕ) (there : region < length table.regions) (free : forms region ≡ None) where
   -- a region without a form has the bytes of a plain one
   plain_is : form_bytes (region_tree table region) (forms region) ≡ plain_bytes (region_tree table region)
   plain_is = ap (form_bytes (region_tree table region)) free
 
-  pub plain_within : plain_bytes (region_tree table region) ≤ object_bytes table forms
+  pub plain_within : plain_bytes (region_tree table region) ≤ object_bytes table initial forms
   plain_within =
       let within = regions_within forms region (region_tree table region) 0 region table.regions (omega arith) refl there in
       let plain = plain_is in
@@ -96,18 +99,18 @@ module _ (table : Table) (forms : ℕ → Option RegionForm) (region : ℕ) (the
 
   -- what is counted beside it is what is counted where it has a form
   pub counted_with : (form : RegionForm)
-      → bytes_of table region (object_bytes table forms - plain_bytes (region_tree table region)) form ≡ bytes_with table forms region form
+      → bytes_of table region (object_bytes table initial forms - plain_bytes (region_tree table region)) form ≡ bytes_with table initial forms region form
   counted_with form =
       let changed = regions_with forms region form (region_tree table region) 0 region table.regions (omega arith) refl there in
       let within = plain_within in
       let plain = plain_is in
       omega (arith, changed, within, plain)
 
-  pub counts_alike : bytes_of table region (object_bytes table forms - plain_bytes (region_tree table region)) ≡ bytes_with table forms region
+  pub counts_alike : bytes_of table region (object_bytes table initial forms - plain_bytes (region_tree table region)) ≡ bytes_with table initial forms region
   counts_alike = λ i form. counted_with form i
 
   -- where it is plain, as much is counted as before
-  pub plain_counts : bytes_with table forms region Plain ≡ object_bytes table forms
+  pub plain_counts : bytes_with table initial forms region Plain ≡ object_bytes table initial forms
   plain_counts =
       let with = counted_with Plain in
       let within = plain_within in

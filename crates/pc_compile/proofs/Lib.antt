@@ -11,6 +11,7 @@ pub mod Standing
 pub mod OneAnswer
 pub mod BareTraps
 pub mod Emittable
+pub mod FittedCodes
 pub mod Compilations
 pub mod MetRegions
 pub mod LoopNotes

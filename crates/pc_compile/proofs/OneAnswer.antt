@@ -1,6 +1,6 @@
 -- A table has one answer: two lists of choices with their forms that are those of one table, in the same limits, are the same.
 use Rattle.std.proofs.Common.{◌≡◌, ℕ, ◌<◌, ◌≤◌, ◌⊎◌, inl, inr, true, List, [], ◌∷◌, ◌++◌, length, Option, Some, None, refl, sym, ◌∙◌, ap, subst, arith}
-use Rattle.std.specs.Prelude.{slice_get}
+use Rattle.std.specs.Prelude.{ℤ, slice_get}
 use Rattle.std.proofs.lemmas.Option.{slice_get_past, slice_get_within}
 use Rattle.pc_word.specs.declared.item.Extent.{Extent}
 use Rattle.pc_word.specs.declared.item.Limits.{Limits}
@@ -11,8 +11,8 @@ use Rattle.pc_table.specs.Table.{Table, region_tree}
 use Rattle.pc_table.specs.TableKeeps.{TableKeeps}
 use Rattle.pc_window.specs.Steps.{Positive}
 use Rattle.pc_automaton.specs.Automaton.{AutomatonState}
-use Rattle.pc_assign.specs.Assigned.{IsAssigned}
-use Rattle.pc_assign.specs.Pressure.{allowed, pressure_of, IsFirstHigh, LowBefore}
+use Rattle.pc_assign.specs.Assigned.{Registers, IsAssigned}
+use Rattle.pc_assign.specs.Pressure.{most_scratch, pressure_of, IsFirstHigh, LowBefore}
 use Rattle.pc_assign.proofs.Unique.{only_one}
 use Rattle.pc_pattern.specs.Pattern.{IsFound}
 use Rattle.pc_pattern.specs.Searches.{Rules}
@@ -34,7 +34,7 @@ use Rattle.pc_compile.specs.Laws.{ATableHasOneAnswer}
 
 module _ (states : List AutomatonState) where
   -- a state of too high a pressure is not low
-  high_low : (number live at : ℕ) → IsFirstHigh states number live → LowBefore states at → number < at → ⊥
+  high_low : (number live at : ℕ) → IsFirstHigh states number live → LowBefore most_scratch states at → number < at → ⊥
   high_low number live at high low less =
       let is = high.is_live in
       let too_high = high.high in
@@ -65,24 +65,24 @@ module _ (rules : Rules) (keeps : TableKeeps rules.table) (room : Positive rules
   states_same states others one other = patterns_one rules keeps room region rows rows states others one.pattern other.pattern
 
   -- it has one form
-  form_same : (states others : List AutomatonState) (registers registers' : ℕ → ℕ → Option ℕ) → HasRegisters rules region rows states registers
+  form_same : (states others : List AutomatonState) (registers registers' : Registers) → HasRegisters rules region rows states registers
       → HasRegisters rules region rows others registers' → ByAutomaton states registers ≡ ByAutomaton others registers'
   form_same states others registers registers' one other =
       let same = states_same states others one.found other.found in
       let given = only_one states registers registers' one.assigned (subst (λ (s : List AutomatonState). IsAssigned s registers') (sym same) other.assigned) in
-      λ i. ByAutomaton (same i) (λ number name. given number name i)
+      λ i. ByAutomaton (same i) (given i)
 
   -- where states are found that are low, none has too high a pressure
   not_high : (states others : List AutomatonState) (number live : ℕ) → IsFound rules region rows states → IsFirstHigh states number live
-      → IsFound rules region rows others → LowBefore others (length others) → ⊥
+      → IsFound rules region rows others → LowBefore most_scratch others (length others) → ⊥
   not_high states others number live one high other low =
       let same = states_same states others one other in
-      high_low states number live (length states) high (subst (λ (s : List AutomatonState). LowBefore s (length s)) (sym same) low)
+      high_low states number live (length states) high (subst (λ (s : List AutomatonState). LowBefore most_scratch s (length s)) (sym same) low)
       (slice_get_within states number high.state high.there)
 
   module _ (bytes : RegionForm → ℕ) where
     -- it is given or refused, and not both
-    not_refused : (states : List AutomatonState) (registers : ℕ → ℕ → Option ℕ) (cause : Cause) → HasRegisters rules region rows states registers
+    not_refused : (states : List AutomatonState) (registers : Registers) (cause : Cause) → HasRegisters rules region rows states registers
         → bytes (ByAutomaton states registers) ≤ most_object → IsFormRefused rules region rows bytes cause → ⊥
     not_refused states registers cause has short (Many_rows none) = one_answer rules region rows states has.found.pattern none
     not_refused states registers cause has short (High_pressure {states = others} {number} {live} found high) =
@@ -98,7 +98,7 @@ module _ (rules : Rules) (keeps : TableKeeps rules.table) (room : Positive rules
     cause_one cause other (Many_rows none) (Many_bytes {states} has many) = absurd (one_answer rules region rows states has.found.pattern none)
     cause_one cause other (High_pressure {states} found high) (Many_rows none) = absurd (one_answer rules region rows states found.pattern none)
     cause_one cause other (High_pressure {states} {number} {live} found high) (High_pressure {states = states'} {number = number'} {live = live'} found' high') =
-        ap (λ (n : ℕ). Live n allowed)
+        ap (λ (n : ℕ). Live n most_scratch)
         (high_one states number live number' live' high
         (subst (λ (s : List AutomatonState). IsFirstHigh s number' live') (sym (states_same states states' found found')) high'))
     cause_one cause other (High_pressure {states} {number} {live} found high) (Many_bytes {states = states'} has many) =
@@ -111,7 +111,7 @@ module _ (rules : Rules) (keeps : TableKeeps rules.table) (room : Positive rules
 
 -- ---- one region
 
-module _ (table : Table) (keeps : TableKeeps table) (limits : Limits) (room : Positive limits) (extent : Extent) where
+module _ (table : Table) (keeps : TableKeeps table) (initial : List (List ℤ)) (limits : Limits) (room : Positive limits) (extent : Extent) where
   module _ (region : ℕ) (bytes : RegionForm → ℕ) where
     passes_one : (causes others : List Cause) → PassesOver table limits extent region bytes causes → PassesOver table limits extent region bytes others → causes ≡ others
     passes_one causes others (Is_not_tried no_one) (Is_not_tried no_other) = refl
@@ -121,7 +121,7 @@ module _ (table : Table) (keeps : TableKeeps table) (limits : Limits) (room : Po
         ap (λ (c : Cause). c ∷ []) (cause_one (pipelines table limits extent) keeps room region extent.rows bytes cause other refused refused')
 
     -- what is pipelined was not passed over
-    not_passed : (states : List AutomatonState) (registers : ℕ → ℕ → Option ℕ) (causes : List Cause) → may_pipeline table extent region ≡ true
+    not_passed : (states : List AutomatonState) (registers : Registers) (causes : List Cause) → may_pipeline table extent region ≡ true
         → HasRegisters (pipelines table limits extent) region extent.rows states registers → bytes (ByAutomaton states registers) ≤ most_object
         → PassesOver table limits extent region bytes causes → ⊥
     not_passed states registers causes may has short (Is_not_tried no_one) = absurd (cc)
@@ -178,18 +178,18 @@ module _ (table : Table) (keeps : TableKeeps table) (limits : Limits) (room : Po
   takes_one : (found found' : List ℕ) (choices choices' : List Choice) (forms forms' : ℕ → Option RegionForm) (region region' : ℕ) (chosen chosen' : RegionForm)
       (kind kind' : Form) (causes causes' : List Cause) → SameChoosing found found' choices choices' forms forms'
       → slice_get found (length choices) ≡ Some region → slice_get found' (length choices') ≡ Some region'
-      → Gets table limits extent region (bytes_with table forms region) chosen kind causes
-      → Gets table limits extent region' (bytes_with table forms' region') chosen' kind' causes'
+      → Gets table limits extent region (bytes_with table initial forms region) chosen kind causes
+      → Gets table limits extent region' (bytes_with table initial forms' region') chosen' kind' causes'
       → SameChoosing (with_regions found (form_leads (region_tree table region) chosen)) (with_regions found' (form_leads (region_tree table region') chosen'))
       (choices ++ (choice_of region kind causes ∷ [])) (choices' ++ (choice_of region' kind' causes' ∷ []))
       (with_region_form forms region chosen) (with_region_form forms' region' chosen')
   takes_one found found' choices choices' forms forms' region region' chosen chosen' kind kind' causes causes' same next next' gets gets' =
       let place = same_number region region'
       (sym next ∙ (λ i. slice_get (same.same_found i) (length (same.same_choices i))) ∙ next') in
-      let counts : bytes_with table forms region ≡ bytes_with table forms' region' = λ i. bytes_with table (same.same_forms i) (place i) in
-      let got = gets_one region (bytes_with table forms region) chosen chosen' kind kind' causes causes' gets
+      let counts : bytes_with table initial forms region ≡ bytes_with table initial forms' region' = λ i. bytes_with table initial (same.same_forms i) (place i) in
+      let got = gets_one region (bytes_with table initial forms region) chosen chosen' kind kind' causes causes' gets
       (subst (λ (b : RegionForm → ℕ). Gets table limits extent region b chosen' kind' causes') (sym counts)
-      (subst (λ (r : ℕ). Gets table limits extent r (bytes_with table forms' region') chosen' kind' causes') (sym place) gets')) in
+      (subst (λ (r : ℕ). Gets table limits extent r (bytes_with table initial forms' region') chosen' kind' causes') (sym place) gets')) in
       record {
         same_found = λ i. with_regions (same.same_found i) (form_leads (region_tree table (place i)) (got.same_form i));
         same_choices = λ i. same.same_choices i ++ (choice_of (place i) (got.same_kind i) (got.same_causes i) ∷ []);
@@ -200,8 +200,8 @@ module _ (table : Table) (keeps : TableKeeps table) (limits : Limits) (room : Po
       same_number a b e = cc
 
   -- after as many choices all is the same
-  choosing_one : (found found' : List ℕ) (choices choices' : List Choice) (forms forms' : ℕ → Option RegionForm) → Choosing table limits extent found choices forms
-      → Choosing table limits extent found' choices' forms' → length choices ≡ length choices' → SameChoosing found found' choices choices' forms forms'
+  choosing_one : (found found' : List ℕ) (choices choices' : List Choice) (forms forms' : ℕ → Option RegionForm) → Choosing table initial limits extent found choices forms
+      → Choosing table initial limits extent found' choices' forms' → length choices ≡ length choices' → SameChoosing found found' choices choices' forms forms'
   choosing_one found found' choices choices' forms forms' Begins Begins many = record { same_found = refl; same_choices = refl; same_forms = refl }
   choosing_one found found' choices choices' forms forms' Begins (Takes {choices = earlier} {region} {kind} {causes} choosing next gets) many =
       let more = length_more earlier (choice_of region kind causes) in absurd (omega (arith, more, many))
@@ -216,8 +216,8 @@ module _ (table : Table) (keeps : TableKeeps table) (limits : Limits) (room : Po
       (choosing_one before before' earlier earlier' had had' choosing choosing' (omega (arith, more, more', many))) next next' gets gets'
 
   -- no more is chosen than where each region that was found was taken
-  chosen_most : (choices : List Choice) (forms : ℕ → Option RegionForm) → (one : AreChosen table limits extent choices forms)
-      → (found : List ℕ) (others : List Choice) (had : ℕ → Option RegionForm) → Choosing table limits extent found others had → length others ≤ length choices
+  chosen_most : (choices : List Choice) (forms : ℕ → Option RegionForm) → (one : AreChosen table initial limits extent choices forms)
+      → (found : List ℕ) (others : List Choice) (had : ℕ → Option RegionForm) → Choosing table initial limits extent found others had → length others ≤ length choices
   chosen_most choices forms one found others had Begins = omega arith
   chosen_most choices forms one found others had (Takes {found = before} {choices = earlier} {forms = given} {region} {kind} {causes} choosing next gets) =
       by_order (chosen_most choices forms one before earlier given choosing) (decide_le (length choices) (length earlier))
@@ -233,8 +233,8 @@ module _ (table : Table) (keeps : TableKeeps table) (limits : Limits) (room : Po
           let there : None ≡ Some region = sym past ∙ ap (λ (list : List ℕ). slice_get list (length earlier)) same.same_found ∙ next in
           absurd (cc)
 
-  one_of_all : (choices others : List Choice) (forms forms' : ℕ → Option RegionForm) → AreChosen table limits extent choices forms
-      → AreChosen table limits extent others forms' → (choices ≡ others) × ((region : ℕ) → forms region ≡ forms' region)
+  one_of_all : (choices others : List Choice) (forms forms' : ℕ → Option RegionForm) → AreChosen table initial limits extent choices forms
+      → AreChosen table initial limits extent others forms' → (choices ≡ others) × ((region : ℕ) → forms region ≡ forms' region)
   one_of_all choices others forms forms' one other =
       let up = chosen_most choices forms one other.found others forms' other.choosing in
       let down = chosen_most others forms' other one.found choices forms one.choosing in
@@ -242,5 +242,5 @@ module _ (table : Table) (keeps : TableKeeps table) (limits : Limits) (room : Po
       (same.same_choices, λ region. ap (λ (f : ℕ → Option RegionForm). f region) same.same_forms)
 
 pub one_answer_of_a_table : ATableHasOneAnswer
-one_answer_of_a_table table keeps limits room extent choices others forms forms' one other =
-    one_of_all table keeps limits room extent choices others forms forms' one other
+one_answer_of_a_table table keeps initial limits room extent choices others forms forms' one other =
+    one_of_all table keeps initial limits room extent choices others forms forms' one other

@@ -1,4 +1,5 @@
 -- Emitted rows keep pace with the schedule of their forms, and so does a code after its tightening.
+use Rattle.std.specs.Prelude.{ℤ}
 use Rattle.std.proofs.Common.{◌≡◌, ℕ, zero, suc, ◌+◌, List, Option, Some, refl, sym, subst, arith, zero-add}
 use Rattle.pc_word.specs.declared.item.Limits.{Limits}
 use Rattle.pc_word.specs.State.{State, start_state}
@@ -11,11 +12,10 @@ use Rattle.pc_window.proofs.Paces.{answer_of_answer}
 use Rattle.pc_machine.specs.declared.tree.Leaf.{Leaf}
 use Rattle.pc_machine.specs.declared.tree.Leaf.TheVariants.{Goto}
 use Rattle.pc_machine.specs.MachineCode.{CodeRow}
-use Rattle.pc_machine.specs.MachineRun.{Cycle, machine_step, machine_run}
+use Rattle.pc_machine.specs.MachineRun.{machine_run}
 use Rattle.pc_emit.specs.Emitted.{Emission, RegionForm, Plain, ByAutomaton, form_leaf, BeginsAtFirstRow, IsEmitted}
 use Rattle.pc_emit.specs.PackedForm.{IsRegionForm}
 use Rattle.pc_emit.specs.Laws.{code_with}
-use Rattle.pc_emit.proofs.Emissions.{starts_at_zero}
 use Rattle.pc_emit.proofs.Leading.{leaf_run, leaf_grows}
 use Rattle.pc_compile.specs.ScheduleRun.{SchedulePlace, At_tree, At_state, begins_in, schedule_step, schedule_run, step_cost, cost_behind, cost_from, start_cost, schedule_cost}
 use Rattle.pc_compile.specs.Laws.{EmittedRowsKeepPace, TightenedCodesKeepPace}
@@ -86,20 +86,21 @@ module _ (e : Emission) (keeps : TableKeeps e.table) (limits : Limits) (rows : L
       (form_meets e keeps limits rows emitted forms 0 (ByAutomaton states registers) has s s (alike_itself s))))
 
 pub emitted_rows_keep_pace : EmittedRowsKeepPace
-emitted_rows_keep_pace e keeps limits rows same emitted at_first forms input n =
-    subst (λ (ops : ℕ). Answers (schedule_run e.table e.forms input n) (machine_run (code_with limits e rows) input (schedule_cost e.table e.forms ops input n))
-    (schedule_run e.table e.forms input n).end) (sym same)
-    (subst (λ (c : Cycle). Answers (schedule_run e.table e.forms input n) (run_from (machine_step (code_with limits e rows)) (schedule_cost e.table e.forms e.ops input n) c)
-    (schedule_run e.table e.forms input n).end) (sym (starts_at_zero limits e rows input))
-    (subst (λ (it : Option RegionForm). IsInTimeAfter e keeps limits rows emitted forms (start_cost it) n (begins_in e.table 0 it (start_state input)) (start_state input))
+emitted_rows_keep_pace e keeps limits registers initial rows same emitted at_first forms input n =
+    let first = start_state initial input in
+    subst (λ (ops : ℕ). Answers (schedule_run e.table e.forms initial input n)
+    (machine_run (code_with limits registers initial e rows) input (schedule_cost e.table e.forms ops initial input n)) (schedule_run e.table e.forms initial input n).end) (sym same)
+    (subst (λ (it : Option RegionForm). IsInTimeAfter e keeps limits rows emitted forms (start_cost it) n (begins_in e.table 0 it first) first)
     (sym emitted.leads.has)
-    (first_in_time e keeps limits rows emitted forms at_first emitted.leads.form emitted.leads.has emitted.leads.is (start_state input) n)))
+    (first_in_time e keeps limits rows emitted forms at_first emitted.leads.form emitted.leads.has emitted.leads.is first n))
 
 -- ---- tightening
 
 pub tightened_codes_keep_pace : TightenedCodesKeepPace
 tightened_codes_keep_pace table forms before after tightened input never pace n =
-    let seen = schedule_run table forms input n in
-    let cycles = schedule_cost table forms before.limits.ops input n in
-    subst (λ (limits : Limits). Answers seen (machine_run after input (schedule_cost table forms limits.ops input n)) seen.end) (sym tightened.limits)
-    (answer_of_answer seen (machine_run before input cycles) (machine_run after input cycles) (pace n) ((tightened.runs input never).pace cycles))
+    let seen = schedule_run table forms before.initial input n in
+    let cycles = schedule_cost table forms before.limits.ops before.initial input n in
+    subst (λ (initial : List (List ℤ)). Answers (schedule_run table forms initial input n)
+    (machine_run after input (schedule_cost table forms after.limits.ops initial input n)) (schedule_run table forms initial input n).end) (sym tightened.initial)
+    (subst (λ (limits : Limits). Answers seen (machine_run after input (schedule_cost table forms limits.ops before.initial input n)) seen.end) (sym tightened.limits)
+    (answer_of_answer seen (machine_run before input cycles) (machine_run after input cycles) (pace n) ((tightened.runs input never).pace cycles)))

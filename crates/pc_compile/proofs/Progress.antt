@@ -1,7 +1,7 @@
 -- Forms are chosen region by region.
 use Rattle.std.proofs.Common.{◌≡◌, ℕ, zero, suc, ◌-◌, ◌<◌, ◌≤◌, Bool, true, false, cond, List, [], ◌∷◌}
 use Rattle.std.proofs.Common.{◌++◌, length, Option, Some, None, refl, sym, ◌∙◌, ap, subst, arith}
-use Rattle.std.specs.Prelude.{nat_eq, slice_get, slice_set, replicate}
+use Rattle.std.specs.Prelude.{ℤ, nat_eq, slice_get, slice_set, replicate}
 use Rattle.std.specs.List.{AllByRecursion}
 use Rattle.std.proofs.lemmas.List.{length-replicate}
 use Rattle.std.proofs.lemmas.Option.{slice_get_within}
@@ -114,17 +114,17 @@ no_forms_in count = λ i region. none_in count region i
 
 -- ---- region 0 is found
 
-pub progress_begins : (table : Table) (limits : Limits) (extent : Extent) (it : Progress) → it.found.order ≡ 0 ∷ [] → length it.found.marks ≡ length table.regions
-    → it.chosen.choices ≡ [] → it.chosen.forms ≡ replicate (length table.regions) None → it.bytes ≡ object_bytes table (λ region. None)
-    → object_bytes table (λ region. None) ≤ most_object → IsChoosing table limits extent it
-progress_begins table limits extent it order marks choices forms bytes small =
+pub progress_begins : (table : Table) (initial : List (List ℤ)) (limits : Limits) (extent : Extent) (it : Progress) → it.found.order ≡ 0 ∷ [] → length it.found.marks ≡ length table.regions
+    → it.chosen.choices ≡ [] → it.chosen.forms ≡ replicate (length table.regions) None → it.bytes ≡ object_bytes table initial (λ region. None)
+    → object_bytes table initial (λ region. None) ≤ most_object → IsChoosing table initial limits extent it
+progress_begins table initial limits extent it order marks choices forms bytes small =
     let none : region_forms it.chosen.forms ≡ (λ region. None) = ap region_forms forms ∙ no_forms_in (length table.regions) in
     record {
       choosing =
-          subst (λ (f : ℕ → Option RegionForm). Choosing table limits extent it.found.order it.chosen.choices f) (sym none)
-          (subst (λ (c : List Choice). Choosing table limits extent it.found.order c (λ region. None)) (sym choices)
-          (subst (λ (o : List ℕ). Choosing table limits extent o [] (λ region. None)) (sym order) Begins));
-      counted = bytes ∙ ap (λ (f : ℕ → Option RegionForm). object_bytes table f) (sym none);
+          subst (λ (f : ℕ → Option RegionForm). Choosing table initial limits extent it.found.order it.chosen.choices f) (sym none)
+          (subst (λ (c : List Choice). Choosing table initial limits extent it.found.order c (λ region. None)) (sym choices)
+          (subst (λ (o : List ℕ). Choosing table initial limits extent o [] (λ region. None)) (sym order) Begins));
+      counted = bytes ∙ ap (λ (f : ℕ → Option RegionForm). object_bytes table initial f) (sym none);
       short = subst (λ (n : ℕ). n ≤ most_object) (sym bytes) small;
       forms = let nothing : Option StoredForm = None in ap length forms ∙ length-replicate (length table.regions) nothing;
       marks = marks;
@@ -132,19 +132,19 @@ progress_begins table limits extent it order marks choices forms bytes small =
 
 -- ---- a region is taken
 
-module _ (table : Table) (limits : Limits) (extent : Extent) (old : Progress) (is : IsChoosing table limits extent old) (region : ℕ)
+module _ (table : Table) (initial : List (List ℤ)) (limits : Limits) (extent : Extent) (old : Progress) (is : IsChoosing table initial limits extent old) (region : ℕ)
     (next : slice_get old.found.order (length old.chosen.choices) ≡ Some region) (there : region < length table.regions) where
   free : region_forms old.chosen.forms region ≡ None
-  free = next_is_free table limits extent old.found.order old.chosen.choices (region_forms old.chosen.forms) is.choosing region next
+  free = next_is_free table initial limits extent old.found.order old.chosen.choices (region_forms old.chosen.forms) is.choosing region next
 
   next_is_counted : plain_bytes (region_tree table region) ≤ old.bytes
   next_is_counted =
-      let within = plain_within table (region_forms old.chosen.forms) region there free in let counted = is.counted in omega (arith, within, counted)
+      let within = plain_within table initial (region_forms old.chosen.forms) region there free in let counted = is.counted in omega (arith, within, counted)
 
-  counts : bytes_of table region (old.bytes - plain_bytes (region_tree table region)) ≡ bytes_with table (region_forms old.chosen.forms) region
+  counts : bytes_of table region (old.bytes - plain_bytes (region_tree table region)) ≡ bytes_with table initial (region_forms old.chosen.forms) region
   counts =
       ap (λ (n : ℕ). bytes_of table region (n - plain_bytes (region_tree table region))) is.counted
-      ∙ counts_alike table (region_forms old.chosen.forms) region there free
+      ∙ counts_alike table initial (region_forms old.chosen.forms) region there free
 
   module _ (new : Progress) (given : Given) (gives : IsGiven table limits extent region (old.bytes - plain_bytes (region_tree table region)) given)
       (finds : Finds (form_leads (region_tree table region) (form_of given.form)) old.found new.found) (bytes : new.bytes ≡ given.bytes)
@@ -155,21 +155,21 @@ module _ (table : Table) (limits : Limits) (extent : Extent) (old : Progress) (i
         let few = is.forms in
         ap region_forms forms ∙ forms_with old.chosen.forms region given.form (omega (arith, few, there))
 
-    chosen_now : Choosing table limits extent new.found.order new.chosen.choices (region_forms new.chosen.forms)
+    chosen_now : Choosing table initial limits extent new.found.order new.chosen.choices (region_forms new.chosen.forms)
     chosen_now =
         let gets = subst (λ (b : RegionForm → ℕ). Gets table limits extent region b (form_of given.form) given.kind given.causes) counts gives.gets in
         let takes = Takes is.choosing next gets in
-        let found = subst (λ (f : List ℕ). Choosing table limits extent f (old.chosen.choices ++ choice_of region given.kind given.causes ∷ [])
+        let found = subst (λ (f : List ℕ). Choosing table initial limits extent f (old.chosen.choices ++ choice_of region given.kind given.causes ∷ [])
         (with_region_form (region_forms old.chosen.forms) region (form_of given.form))) (sym finds.order) takes in
-        let chosen = subst (λ (c : List Choice). Choosing table limits extent new.found.order c (with_region_form (region_forms old.chosen.forms) region (form_of given.form)))
+        let chosen = subst (λ (c : List Choice). Choosing table initial limits extent new.found.order c (with_region_form (region_forms old.chosen.forms) region (form_of given.form)))
         (sym choices) found in
-        subst (λ (f : ℕ → Option RegionForm). Choosing table limits extent new.found.order new.chosen.choices f) (sym forms_now) chosen
+        subst (λ (f : ℕ → Option RegionForm). Choosing table initial limits extent new.found.order new.chosen.choices f) (sym forms_now) chosen
 
-    pub takes_next : IsChoosing table limits extent new
+    pub takes_next : IsChoosing table initial limits extent new
     takes_next = record {
       choosing = chosen_now;
       counted = bytes ∙ gives.counted ∙ ap (λ (b : RegionForm → ℕ). b (form_of given.form)) counts
-          ∙ ap (λ (f : ℕ → Option RegionForm). object_bytes table f) (sym forms_now);
+          ∙ ap (λ (f : ℕ → Option RegionForm). object_bytes table initial f) (sym forms_now);
       short = let short = gives.short in omega (arith, short, bytes);
       forms = ap length forms ∙ set_length old.chosen.forms region (Some given.form) ∙ is.forms;
       marks = finds.as_many ∙ is.marks;
@@ -178,18 +178,18 @@ module _ (table : Table) (limits : Limits) (extent : Extent) (old : Progress) (i
 -- ---- regions that are found
 
 -- a region that was found is there
-pub next_there : (table : RegionTable) (limits : Limits) (extent : Extent) (it : Progress) → IsChoosing (table_of table) limits extent it → IsMarked it.found → (at region : ℕ)
+pub next_there : (table : RegionTable) (initial : List (List ℤ)) (limits : Limits) (extent : Extent) (it : Progress) → IsChoosing (table_of table) initial limits extent it → IsMarked it.found → (at region : ℕ)
     → slice_get it.found.order at ≡ Some region → region < length table.regions
-next_there table limits extent it is marked at region here =
+next_there table initial limits extent it is marked at region here =
     let lt = found_there it.found at region marked here in
     let marks = is.marks in
     let regions = map_length table_region table.regions in
     omega (arith, lt, marks, regions)
 
 -- while one is left, fewer were taken than there are
-pub taken_fewer : (table : RegionTable) (limits : Limits) (extent : Extent) (it : Progress) → IsChoosing (table_of table) limits extent it → IsMarked it.found → (region : ℕ)
+pub taken_fewer : (table : RegionTable) (initial : List (List ℤ)) (limits : Limits) (extent : Extent) (it : Progress) → IsChoosing (table_of table) initial limits extent it → IsMarked it.found → (region : ℕ)
     → slice_get it.found.order (length it.chosen.choices) ≡ Some region → length it.chosen.choices < length table.regions
-taken_fewer table limits extent it is marked region next =
+taken_fewer table initial limits extent it is marked region next =
     let lt = slice_get_within it.found.order (length it.chosen.choices) region next in
     let few = no_more_found it.found marked in
     let marks = is.marks in
@@ -197,21 +197,21 @@ taken_fewer table limits extent it is marked region next =
     omega (arith, lt, few, marks, regions)
 
 -- where none is left, forms were chosen
-pub all_chosen : (table : Table) (limits : Limits) (extent : Extent) (it : Progress) → IsChoosing table limits extent it
-    → slice_get it.found.order (length it.chosen.choices) ≡ None → AreChosen table limits extent it.chosen.choices (region_forms it.chosen.forms)
-all_chosen table limits extent it is none = record {
+pub all_chosen : (table : Table) (initial : List (List ℤ)) (limits : Limits) (extent : Extent) (it : Progress) → IsChoosing table initial limits extent it
+    → slice_get it.found.order (length it.chosen.choices) ≡ None → AreChosen table initial limits extent it.chosen.choices (region_forms it.chosen.forms)
+all_chosen table initial limits extent it is none = record {
   found = it.found.order;
   choosing = is.choosing;
   all =
-      let few = taken_few table limits extent it.found.order it.chosen.choices (region_forms it.chosen.forms) is.choosing in
+      let few = taken_few table initial limits extent it.found.order it.chosen.choices (region_forms it.chosen.forms) is.choosing in
       let end = none_left it.found.order (length it.chosen.choices) none in
       omega (arith, few, end);
 }
 
 -- the region that is taken next is counted as a plain one
-pub next_counted : (table : RegionTable) (limits : Limits) (extent : Extent) (it : Progress) → IsChoosing (table_of table) limits extent it → (region : ℕ)
+pub next_counted : (table : RegionTable) (initial : List (List ℤ)) (limits : Limits) (extent : Extent) (it : Progress) → IsChoosing (table_of table) initial limits extent it → (region : ℕ)
     → slice_get it.found.order (length it.chosen.choices) ≡ Some region → region < length table.regions
     → plain_bytes (region_tree (table_of table) region) ≤ it.bytes
-next_counted table limits extent it is region next there =
+next_counted table initial limits extent it is region next there =
     let regions = map_length table_region table.regions in
-    next_is_counted (table_of table) limits extent it is region next (omega (arith, regions, there))
+    next_is_counted (table_of table) initial limits extent it is region next (omega (arith, regions, there))

@@ -20,6 +20,7 @@ use Rattle.pc_automaton.specs.AutomatonRun.{AutomatonPlace, At_state as At_row, 
 use Rattle.pc_automaton.specs.RunsAsRegion.{RunsAlike}
 use Rattle.pc_automaton.proofs.LeftRuns.{left_is_region}
 use Rattle.pc_pattern.specs.Pattern.{rules_for}
+use Rattle.pc_assign.specs.Assigned.{Registers}
 use Rattle.pc_emit.specs.Emitted.{RegionForm, Plain, ByAutomaton}
 use Rattle.pc_emit.proofs.PlainRuns.{IsRoot, roots}
 use Rattle.pc_compile.specs.declared.choice.Choice.{Choice}
@@ -32,7 +33,7 @@ use Rattle.pc_compile.proofs.Taken.{form_among}
 -- ---- one step at a time
 
 module _ (table : Table) (keeps : TableKeeps table) (forms : ℕ → Option RegionForm)
-    (alike : (region : ℕ) (states : List AutomatonState) (registers : ℕ → ℕ → Option ℕ) → forms region ≡ Some (ByAutomaton states registers)
+    (alike : (region : ℕ) (states : List AutomatonState) (registers : Registers) → forms region ≡ Some (ByAutomaton states registers)
     → (s : State) → NeverFaults (region_run table (Next region) s) → RunsAlike table region states s) where
   abbrev schedule : ℕ → SchedulePlace → Seen
   schedule n place = run_from (schedule_step table forms) n place
@@ -158,27 +159,27 @@ module _ (table : Table) (keeps : TableKeeps table) (forms : ℕ → Option Regi
 
 -- ---- forms that were chosen
 
-module _ (table : Table) (limits : Limits) (extent : Extent) (region : ℕ) (states : List AutomatonState) (registers : ℕ → ℕ → Option ℕ) where
+module _ (table : Table) (initial : List (List ℤ)) (limits : Limits) (extent : Extent) (region : ℕ) (states : List AutomatonState) (registers : Registers) where
   -- the automaton of a form that was chosen was found by a search
   abbrev pub IsSearched : Type 0
   IsSearched = (number : ℕ) × (most : ℕ) × HasRegisters (rules_for table limits number) region most states registers
 
-  pub automaton_searched : {found : List ℕ} {choices : List Choice} {forms : ℕ → Option RegionForm} → Choosing table limits extent found choices forms
+  pub automaton_searched : {found : List ℕ} {choices : List Choice} {forms : ℕ → Option RegionForm} → Choosing table initial limits extent found choices forms
       → forms region ≡ Some (ByAutomaton states registers) → IsSearched
   automaton_searched Begins has = absurd (cc)
   automaton_searched (Takes {forms = had} {region = last} {chosen = chosen} {kind = kind} {causes = causes} choosing next gets) has =
-      by (form_among table limits extent had last region chosen (ByAutomaton states registers) has) (automaton_searched choosing)
+      by (form_among table initial limits extent had last region chosen (ByAutomaton states registers) has) (automaton_searched choosing)
     where
       by : ((region ≡ last) × (chosen ≡ ByAutomaton states registers)) ⊎ (had region ≡ Some (ByAutomaton states registers))
           → (had region ≡ Some (ByAutomaton states registers) → IsSearched) → IsSearched
       by (inl (here, is)) before =
-          form_found table limits extent region (bytes_with table had last) states registers kind causes
-          (subst (λ (r : ℕ). Gets table limits extent r (bytes_with table had last) (ByAutomaton states registers) kind causes) (sym here)
-          (subst (λ (form : RegionForm). Gets table limits extent last (bytes_with table had last) form kind causes) is gets))
+          form_found table limits extent region (bytes_with table initial had last) states registers kind causes
+          (subst (λ (r : ℕ). Gets table limits extent r (bytes_with table initial had last) (ByAutomaton states registers) kind causes) (sym here)
+          (subst (λ (form : RegionForm). Gets table limits extent last (bytes_with table initial had last) form kind causes) is gets))
       by (inr was) before = before was
 
 pub schedules_keep_pace : SchedulesKeepPaceWithTheRegions
-schedules_keep_pace table keeps limits extent choices forms chosen input never n =
+schedules_keep_pace table keeps initial limits extent choices forms chosen input never n =
     regions_paced table keeps forms
-    (λ region states registers has. (automaton_searched table limits extent region states registers chosen.choosing has).2.found.runs.alike)
-    n 0 (start_state input) never
+    (λ region states registers has. (automaton_searched table initial limits extent region states registers chosen.choosing has).2.found.runs.alike)
+    n 0 (start_state initial input) never

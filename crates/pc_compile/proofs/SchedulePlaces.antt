@@ -27,15 +27,15 @@ use Rattle.pc_automaton.specs.AutomatonRun.{state_parameters}
 use Rattle.pc_assign.proofs.Apartness.{all_in}
 use Rattle.pc_machine.specs.declared.tree.Leaf.{Leaf}
 use Rattle.pc_machine.specs.declared.tree.Leaf.TheVariants as machine
-use Rattle.pc_machine.specs.MachineCode.{CodeRow, RowCode}
+use Rattle.pc_machine.specs.MachineCode.{CodeRow, RowCode, code_without_data}
 use Rattle.pc_machine.specs.MachineRun.{after_row, machine_step}
 use Rattle.pc_copies.specs.Moves.{after_rows}
+use Rattle.pc_assign.specs.Assigned.{Registers}
 use Rattle.pc_emit.specs.Registers.{register_of, argument_moves, home_moves}
 use Rattle.pc_emit.specs.Emitted.{Emission, RegionForm, Plain, ByAutomaton, root_leaf, form_leaf, leads_to_state, leads_to_region, ends_here, traps_here}
 use Rattle.pc_emit.specs.Emitted.{BeginsAt, at_first_row, by_leaf_alone}
 use Rattle.pc_emit.specs.Emitted.{LeadsBehind, to_item, to_test, to_region, to_end, to_trap, TreeStands, item_row, test_row, no_row, no_end_row, no_trap_row, IsEmitted}
 use Rattle.pc_emit.specs.PackedForm.{IsPackedForm, IsRegionForm}
-use Rattle.pc_emit.specs.Laws.{code_with}
 use Rattle.pc_emit.proofs.Rows.{LeafHolds, OutcomeStands, both_fault, both_commit}
 use Rattle.pc_emit.proofs.Passed.{region_passed}
 use Rattle.pc_emit.proofs.Leading.{leaf_run, leaf_seen, row_seen, passes_back}
@@ -50,9 +50,9 @@ use Rattle.pc_word.proofs.Evaluated.{Alike-fault, Alike-prints}
 module _ (e : Emission) (keeps : TableKeeps e.table) (limits : Limits) (rows : List CodeRow) (emitted : IsEmitted e rows)
     (forms : (region : ℕ) (form : RegionForm) → e.forms region ≡ Some form → IsRegionForm e.table region form) where
   abbrev pub code : RowCode
-  code = code_with limits e rows
+  code = code_without_data limits e.table.arrays rows
 
-  module _ (region : ℕ) (states : List AutomatonState) (registers : ℕ → ℕ → Option ℕ) (has : e.forms region ≡ Some (ByAutomaton states registers)) where
+  module _ (region : ℕ) (states : List AutomatonState) (registers : Registers) (has : e.forms region ≡ Some (ByAutomaton states registers)) where
     abbrev pub packed : IsPackedForm e.table region states registers
     packed = forms region (ByAutomaton states registers) has
 
@@ -67,7 +67,7 @@ module _ (e : Emission) (keeps : TableKeeps e.table) (limits : Limits) (rows : L
       there = packed.is_first;
       holds = record {
         names = λ x there.
-            ap (λ (o : Option ℕ). m.names (or_zero o)) (all_in (λ v. registers 0 v ≡ Some v) packed.first.parameters x packed.variables there)
+            ap (λ (o : Option ℕ). m.names (or_zero o)) (all_in (λ v. registers.of 0 v ≡ Some v) packed.first.parameters x packed.variables there)
             ∙ alike.names x (all_in (λ v. list_any (nat_eq v) (region_live e.table region) ≡ true) packed.first.parameters x packed.live there);
         cells = alike.cells;
         input = alike.input;
@@ -76,7 +76,7 @@ module _ (e : Emission) (keeps : TableKeeps e.table) (limits : Limits) (rows : L
 
   -- the machine, at a leaf that leads on, is at the rows of a schedule's place
   pub data Meets : SchedulePlace → Leaf → State → Type 0 where
-    meets_state : {region number : ℕ} {states : List AutomatonState} {registers : ℕ → ℕ → Option ℕ} {s m : State} (has : e.forms region ≡ Some (ByAutomaton states registers))
+    meets_state : {region number : ℕ} {states : List AutomatonState} {registers : Registers} {s m : State} (has : e.forms region ≡ Some (ByAutomaton states registers))
         → Stands region states registers has number s m → Meets (At_state region states number s) (machine.Goto (e.places.state region number)) m
     meets_tree : {row : ℕ} {tree : TableTree} {s m : State} → TreeStands e rows row tree → IsRoot tree → Agrees e.table tree s m
         → Meets (At_tree tree s) (root_leaf row tree) m
@@ -102,7 +102,7 @@ module _ (e : Emission) (keeps : TableKeeps e.table) (limits : Limits) (rows : L
 
   -- ---- packed regions
 
-  module _ (region : ℕ) (states : List AutomatonState) (registers : ℕ → ℕ → Option ℕ) (has : e.forms region ≡ Some (ByAutomaton states registers)) where
+  module _ (region : ℕ) (states : List AutomatonState) (registers : Registers) (has : e.forms region ≡ Some (ByAutomaton states registers)) where
     abbrev LeadsOn : (ℕ → ℕ) → AutomatonLeaf → Leaf → Type 0
     LeadsOn of leaf below =
         Leads e keeps limits rows region states registers (packed region states registers has).automaton (packed region states registers has).apart
@@ -113,8 +113,8 @@ module _ (e : Emission) (keeps : TableKeeps e.table) (limits : Limits) (rows : L
         → Pays (schedule_leaf_step e.table e.forms region states out s leaf) (leaf_cost e.ops leaf) shown
     leaf_pays of out s m (To number arguments) below (leads, leads_to_state moves) holds shown same =
         pays_on (suc (length moves.copies))
-        (passing_few (argument_moves of (register_of (registers number)) (state_parameters (slice_get states number)) arguments) e.ops e.scratch moves.copies moves.arranged
-        (length arguments) (arguments_many of (register_of (registers number)) (state_parameters (slice_get states number)) arguments))
+        (passing_few (argument_moves of (register_of (registers.of number)) (state_parameters (slice_get states number)) arguments) e.ops registers.scratch moves.copies moves.arranged
+        (length arguments) (arguments_many of (register_of (registers.of number)) (state_parameters (slice_get states number)) arguments))
         (λ k. let one : suc (length moves.copies) + k ≡ suc (length moves.copies + k) = omega arith in
         ap shown one ∙ same (length moves.copies + k) ∙ ap (λ (x : Seen). after_printing out x) (passes_back code moves.passes m k))
         (meets_state has
@@ -123,12 +123,12 @@ module _ (e : Emission) (keeps : TableKeeps e.table) (limits : Limits) (rows : L
     leaf_pays of out s m (Out to homes) below (leads, leads_to_region {target} there moves) holds shown same =
         let u = after_rows e.table.arrays moves.copies m in
         pays_on (suc (length moves.copies))
-        (passing_few (home_moves of homes) e.ops e.scratch moves.copies moves.arranged (length homes) (homes_many of homes))
+        (passing_few (home_moves of homes) e.ops registers.scratch moves.copies moves.arranged (length homes) (homes_many of homes))
         (λ k. let one : suc (length moves.copies) + k ≡ suc (length moves.copies + k) = omega arith in
         ap shown one ∙ same (length moves.copies + k) ∙ ap (λ (x : Seen). after_printing out x) (passes_back code moves.passes m k))
         (subst (λ (l : Leaf). Meets (begins_at e.table e.forms to (home_state s homes)) l u) (sym there.is)
         (region_meets to there.form there.has (home_state s homes) u
-        (region_passed e.table of s m u e.scratch to homes leads.1.live holds (moves.arranged.done e.table.arrays m))))
+        (region_passed e.table of s m u registers.scratch to homes leads.1.live holds (moves.arranged.done e.table.arrays m))))
     leaf_pays of out s m Stop below (leads, ends_here) holds shown same = pays_end 1 (omega arith) (same 0 ∙ sym (leaf_seen code out m below 0))
     leaf_pays of out s m (Trap kind line) below (leads, traps_here) holds shown same = pays_end 1 (omega arith) (same 0 ∙ sym (leaf_seen code out m below 0))
 
@@ -147,7 +147,7 @@ module _ (e : Emission) (keeps : TableKeeps e.table) (limits : Limits) (rows : L
         (packed region states registers has).there (emitted.stands region (ByAutomaton states registers) has) number s m at in
         subst (λ (it : Option AutomatonState). Pays (schedule_state_step e.table e.forms region states it s) (state_cost e.table.arrays e.ops it s)
         (leaf_run code (machine.Goto (e.places.state region number)) m)) (sym at.there)
-        (outcome_pays (register_of (registers number)) (row_step e.table.arrays at.state.row s) (row_step e.table.arrays b.0 m) b.2
+        (outcome_pays (register_of (registers.of number)) (row_step e.table.arrays at.state.row s) (row_step e.table.arrays b.0 m) b.2
         (leaf_run code (machine.Goto (e.places.state region number)) m) (λ j. row_seen code (e.places.state region number) b.0 m j b.1))
 
   -- ---- plain regions

@@ -1,7 +1,7 @@
 -- The object of a table is short: with all regions plain by the graph's nodes, and in the forms that were chosen by what was
 -- counted.
 use Rattle.std.proofs.Common.{◌≡◌, ◌∙◌, ℕ, suc, ◌+◌, ◌-◌, ◌*◌, ◌≤◌, List, [], ◌∷◌, ◌++◌, length, length-append, Option, Some, None, refl, ap, arith}
-use Rattle.std.specs.Prelude.{Bool, true, false, if◌then◌else◌, slice_get}
+use Rattle.std.specs.Prelude.{ℤ, Bool, true, false, if◌then◌else◌, slice_get, sum}
 use Rattle.std.specs.List.{AllByRecursion, flat_map}
 use Rattle.std.proofs.lemmas.List.Sums.{sum_by-cons}
 use Rattle.pc_word.specs.declared.item.Item.{Item}
@@ -9,7 +9,7 @@ use Rattle.pc_word.specs.declared.item.Item.TheVariants.{Bin, Copy, Load, Store,
 use Rattle.pc_word.specs.declared.item.Operand.{Operand}
 use Rattle.pc_word.specs.declared.item.Operand.TheVariants.{Name, Lit}
 use Rattle.pc_word.specs.declared.loop_mark.LoopMark.{LoopMark}
-use Rattle.pc_word.specs.MachineLimits.{most_object}
+use Rattle.pc_word.specs.MachineLimits.{most_elements, most_object}
 use Rattle.pc_word.proofs.Lists.{all_both}
 use Rattle.pc_table.specs.Table.{TableTree, Does, Asks, Next, Stops_here, Traps_here, TableRegion, Table}
 use Rattle.pc_table.specs.TableKeeps.{units}
@@ -21,19 +21,21 @@ use Rattle.pc_compile.specs.declared.choice.Form.TheVariants as form
 use Rattle.pc_compile.specs.declared.choice.Cause.{Cause}
 use Rattle.pc_compile.specs.declared.choice.Cause.TheVariants.{Rows, Live, Bytes}
 use Rattle.pc_compile.specs.declared.choice.Choice.{Choice}
-use Rattle.pc_machine.specs.Data.{has_no_data}
+use Rattle.pc_word.specs.Data.{AreData}
 use Rattle.pc_machine.specs.MachineCode.{CodeRow, RowCode}
-use Rattle.pc_machine.specs.Registers.{few_registers}
 use Rattle.pc_word.specs.Row.{Then, Either, At_leaf}
 use Rattle.pc_object.specs.declared.object.Note.{Note}
 use Rattle.pc_object.specs.ObjectText.{CodeWithNotes, u16_text, u32_text, operand_text, item_text, leaf_text, row_text, note_text, notes_text}
 use Rattle.pc_object.specs.declared.version.Version.{Version}
 use Rattle.pc_object.specs.declared.version.Version.TheVariants.{Ptv1, Ptv2}
-use Rattle.pc_object.specs.ObjectText.{version_for, version_of, header_text_in, header_text, object_text, IsChoice}
+use Rattle.pc_object.specs.ObjectText.{version_of, header_text, object_text, IsChoice}
 use Rattle.pc_tighten.specs.Sizes.{Room, row_room, rows_room}
 use Rattle.pc_compile.specs.Notes.{caused_note, packed_note, plain_notes, form_notes, choice_notes, choice_heading, loop_notes, notes_from, notes_of}
 use Rattle.pc_compile.proofs.Counts.{all_units}
-use Rattle.pc_object.specs.Sizes.{operand_bytes, item_bytes}
+use Rattle.pc_object.proofs.Lengths.{sizes_are_lengths}
+use Rattle.pc_object.specs.Sizes.{operand_bytes, item_bytes, header_bytes, length_bytes, data_bytes, initial_bytes}
+use Rattle.pc_object.specs.declared.version.Version.{Version}
+use Rattle.pc_object.specs.declared.version.Version.TheVariants.{Ptv1, Ptv2}
 
 -- ---- all regions plain
 
@@ -64,10 +66,25 @@ regions_few number [] = omega arith
 regions_few number (region ∷ regions) =
     let one = tree_few region.tree in let others = regions_few (1 + number) regions in omega (arith, one, others)
 
--- a table of so few regions, items, tests, loops and arrays
-pub plain_is_short : (table : Table) → length table.regions ≤ 16384 → all_units table.regions ≤ 16384 → length table.loops ≤ 16384
-    → length table.arrays ≤ 32 → object_bytes table (λ region. None) ≤ most_object
-plain_is_short table regions units loops arrays = let few = regions_few 0 table.regions in omega (arith, few, regions, units, loops, arrays)
+-- data that fit into their arrays
+data_few : (arrays : List ℕ) (initial : List (List ℤ)) → AreData arrays initial → initial_bytes Ptv2 initial ≤ 4 * length arrays + 4 * sum arrays
+data_few [] [] fit = omega arith
+data_few [] (words ∷ initial) fit = absurd fit
+data_few (elements ∷ arrays) [] fit = absurd fit
+data_few (elements ∷ arrays) (words ∷ initial) fit =
+    let here = fit.0.fits in
+    let others = data_few arrays initial fit.1 in
+    let bytes = sum_by-cons data_bytes words initial in
+    let many = sum_by-cons (λ (n : ℕ). n) elements arrays in
+    omega (arith, here, others, bytes, many)
+
+-- a table of so few regions, items, tests, loops and arrays, with data of these
+pub plain_is_short : (table : Table) (initial : List (List ℤ)) → length table.regions ≤ 16384 → all_units table.regions ≤ 16384 → length table.loops ≤ 16384
+    → length table.arrays ≤ 32 → AreData table.arrays initial → sum table.arrays ≤ most_elements → object_bytes table initial (λ region. None) ≤ most_object
+plain_is_short table initial regions units loops arrays fit elements =
+    let few = regions_few 0 table.regions in
+    let fit_in = data_few table.arrays initial fit in
+    omega (arith, few, regions, units, loops, arrays, fit_in, elements)
 
 -- ---- notes
 
@@ -146,24 +163,6 @@ known_notes table choices = known_from table choices 0 table.loops
 
 -- ---- the object
 
-note_length : (note : Note) → length (note_text note) ≡ 13
-note_length note = refl
-
-all_notes_length : (notes : List Note) → length (flat_map note_text notes) ≡ 13 * length notes
-all_notes_length [] = refl
-all_notes_length (note ∷ notes) =
-    let both = length-append (note_text note) (flat_map note_text notes) in
-    let one = note_length note in
-    let others = all_notes_length notes in
-    omega (arith, both, one, others)
-
-all_lengths_length : (lengths : List ℕ) → length (flat_map u32_text lengths) ≡ 4 * length lengths
-all_lengths_length [] = refl
-all_lengths_length (n ∷ lengths) =
-    let both = length-append (u32_text n) (flat_map u32_text lengths) in
-    let others = all_lengths_length lengths in
-    omega (arith, both, others)
-
 -- the room that the text of a code takes
 abbrev pub text_room : Room
 text_room = record {
@@ -197,30 +196,30 @@ pub no_longer : (rows before : List CodeRow) → rows_room text_room rows ≤ ro
     → length (flat_map row_text rows) ≤ length (flat_map row_text before)
 no_longer rows before less = let one = rows_length rows in let other = rows_length before in omega (arith, one, other, less)
 
--- a code of the fewer registers without data is written as PTV1
-in_ptv1 : (code : RowCode) → code.registers ≡ few_registers → has_no_data code.initial ≡ true → version_of code ≡ Ptv1
-in_ptv1 code few none =
-    ap (λ (registers : ℕ). version_for registers code.initial) few
-    ∙ ap (λ (b : Bool). if b then Ptv1 else Ptv2) none
+-- the header of a code in either version is no longer than in PTV2
+header_few : (code : RowCode) → length (header_text code) ≤ 14 + 4 * length code.arrays + initial_bytes Ptv2 code.initial
+header_few code = let is = sizes_are_lengths.header code in by (version_of code) is
+  where
+    by : (version : Version) → length (header_text code) ≡ header_bytes version + length_bytes * length code.arrays + initial_bytes version code.initial
+        → length (header_text code) ≤ 14 + 4 * length code.arrays + initial_bytes Ptv2 code.initial
+    by Ptv1 is = omega (arith, is)
+    by Ptv2 is = omega (arith, is)
 
 -- an object whose rows are no longer than was counted for them
-pub object_is_short : (table : Table) (forms : ℕ → Option RegionForm) (choices : List Choice) (object : CodeWithNotes)
-    → object.code.registers ≡ few_registers → has_no_data object.code.initial ≡ true
-    → object.code.arrays ≡ table.arrays → object.notes ≡ notes_of table choices
-    → length (flat_map row_text object.code.rows) ≤ regions_bytes forms 0 table.regions → object_bytes table forms ≤ most_object
+pub object_is_short : (table : Table) (initial : List (List ℤ)) (forms : ℕ → Option RegionForm) (choices : List Choice) (object : CodeWithNotes)
+    → object.code.arrays ≡ table.arrays → object.code.initial ≡ initial → object.notes ≡ notes_of table choices
+    → length (flat_map row_text object.code.rows) ≤ regions_bytes forms 0 table.regions → object_bytes table initial forms ≤ most_object
     → length (object_text object) ≤ most_object
-object_is_short table forms choices object registers none same noted short counted =
+object_is_short table initial forms choices object same begins noted short counted =
     let code = object.code in
     let rows = code.rows in
     let notes = object.notes in
     let as_many = ap (λ (l : List ℕ). length l) same in
     let as_noted = ap (λ (l : List Note). length l) noted in
-    let header = length-append (flat_map u32_text code.arrays) (u32_text (length rows)) in
-    let arrays = all_lengths_length code.arrays in
-    let of_notes = length-append (u16_text (length notes)) (flat_map note_text notes) in
-    let told = all_notes_length notes in
+    let header = header_few code in
+    let begun = ap (initial_bytes Ptv2) begins in
+    let told = sizes_are_lengths.notes notes in
     let few = few_notes table choices in
-    let version = ap (λ (v : Version). length (header_text_in v code)) (in_ptv1 code registers none) in
     let all = length-append (header_text code) (flat_map row_text rows ++ notes_text notes) in
     let behind = length-append (flat_map row_text rows) (notes_text notes) in
-    omega (arith, short, counted, as_many, as_noted, header, arrays, of_notes, told, few, version, all, behind)
+    omega (arith, short, counted, as_many, as_noted, header, begun, told, few, all, behind)

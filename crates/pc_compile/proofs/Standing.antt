@@ -1,7 +1,7 @@
 -- Chosen forms may be emitted.
 use Rattle.std.proofs.Common.{◌≡◌, ℕ, zero, suc, ◌<◌, ◌≤◌, ◌⊎◌, inl, inr, Bool, true, false, ◌||◌, cond}
 use Rattle.std.proofs.Common.{List, [], ◌∷◌, ◌++◌, length, Option, Some, None, refl, sym, ◌∙◌, ap, subst, arith}
-use Rattle.std.specs.Prelude.{nat_eq, slice_get}
+use Rattle.std.specs.Prelude.{ℤ, nat_eq, slice_get}
 use Rattle.std.specs.List.{AllByRecursion, list_any, flat_map}
 use Rattle.std.proofs.lemmas.List.Folds.{list_any-append}
 use Rattle.std.proofs.lemmas.Map.Views.{Contains-from_any}
@@ -198,21 +198,21 @@ state_has table forms (first ∷ states) each (suc number) state e =
 
 -- ---- while forms are chosen
 
-module _ (table : Table) (keeps : TableKeeps table) (limits : Limits) (extent : Extent)
-    (small : object_bytes table (λ region. None) ≤ most_object) where
+module _ (table : Table) (keeps : TableKeeps table) (initial : List (List ℤ)) (limits : Limits) (extent : Extent)
+    (small : object_bytes table initial (λ region. None) ≤ most_object) where
   -- what a region's form was given by
   pub record WasGiven (region : ℕ) (form : RegionForm) : Type 0 where
     pub had : ℕ → Option RegionForm
     pub free : had region ≡ None
-    pub short : object_bytes table had ≤ most_object
+    pub short : object_bytes table initial had ≤ most_object
     pub kind : Form
     pub causes : List Cause
     pub there : region < length table.regions
-    pub gets : Gets table limits extent region (bytes_with table had region) form kind causes
+    pub gets : Gets table limits extent region (bytes_with table initial had region) form kind causes
 
   -- what is kept from region to region
   pub record Stands (found : List ℕ) (choices : List Choice) (forms : ℕ → Option RegionForm) : Type 0 where
-    pub short : object_bytes table forms ≤ most_object
+    pub short : object_bytes table initial forms ≤ most_object
     pub few : length choices ≤ length found
     pub first : slice_get found 0 ≡ Some 0
     pub there : (region : ℕ) → IsIn found region → region < length table.regions
@@ -242,22 +242,22 @@ module _ (table : Table) (keeps : TableKeeps table) (limits : Limits) (extent : 
 
   -- the bytes stay few enough
   gets_short : (forms : ℕ → Option RegionForm) (region : ℕ) (chosen : RegionForm) (kind : Form) (causes : List Cause) → region < length table.regions
-      → forms region ≡ None → object_bytes table forms ≤ most_object → Gets table limits extent region (bytes_with table forms region) chosen kind causes
-      → object_bytes table (with_region_form forms region chosen) ≤ most_object
+      → forms region ≡ None → object_bytes table initial forms ≤ most_object → Gets table limits extent region (bytes_with table initial forms region) chosen kind causes
+      → object_bytes table initial (with_region_form forms region chosen) ≤ most_object
   gets_short forms region chosen kind causes there free short (Gets_pipelined may has few) = few
   gets_short forms region chosen kind causes there free short (Gets_packed passed has few) = few
   gets_short forms region chosen kind causes there free short (Gets_plain passed refused) =
-      subst (λ (n : ℕ). n ≤ most_object) (sym (plain_counts table forms region there free)) short
+      subst (λ (n : ℕ). n ≤ most_object) (sym (plain_counts table initial forms region there free)) short
 
   module _ (found : List ℕ) (choices : List Choice) (forms : ℕ → Option RegionForm) (last : ℕ) (chosen : RegionForm) (kind : Form) (causes : List Cause)
-      (choosing : Choosing table limits extent found choices forms) (next : slice_get found (length choices) ≡ Some last)
-      (gets : Gets table limits extent last (bytes_with table forms last) chosen kind causes) (stands : Stands found choices forms) where
+      (choosing : Choosing table initial limits extent found choices forms) (next : slice_get found (length choices) ≡ Some last)
+      (gets : Gets table limits extent last (bytes_with table initial forms last) chosen kind causes) (stands : Stands found choices forms) where
     -- the region that is taken is there, and has no form yet
     last_there : last < length table.regions
     last_there = stands.there last (listed found (length choices) last next)
 
     last_free : forms last ≡ None
-    last_free = next_is_free table limits extent found choices forms choosing last next
+    last_free = next_is_free table initial limits extent found choices forms choosing last next
 
     -- regions that are found, and forms, after it
     abbrev leads : List ℕ
@@ -274,7 +274,7 @@ module _ (table : Table) (keeps : TableKeeps table) (limits : Limits) (extent : 
       | inl old ↦ stands.there region old
       | inr new ↦
           led_below (length table.regions) (region_tree table last) chosen
-          (leads_below table keeps limits extent last (bytes_with table forms last) chosen kind causes gets) region new
+          (leads_below table keeps limits extent last (bytes_with table initial forms last) chosen kind causes gets) region new
     ]
 
     taken_now : (at region : ℕ) → at < suc (length choices) → slice_get now at ≡ Some region → (form : RegionForm) × (with_it region ≡ Some form)
@@ -299,7 +299,7 @@ module _ (table : Table) (keeps : TableKeeps table) (limits : Limits) (extent : 
             let was = stands.taken at region less (old_at less) in (was.0, form_stays forms last region chosen was.0 last_free was.1)
 
     given_now : (region : ℕ) (form : RegionForm) → with_it region ≡ Some form → WasGiven region form
-    given_now region form has = by (form_among table limits extent forms last region chosen form has)
+    given_now region form has = by (form_among table initial limits extent forms last region chosen form has)
       where
         by : ((region ≡ last) × (chosen ≡ form)) ⊎ (forms region ≡ Some form) → WasGiven region form
         by (inl h) =
@@ -316,7 +316,7 @@ module _ (table : Table) (keeps : TableKeeps table) (limits : Limits) (extent : 
         by (inr h) = stands.given region form h
 
     behind_now : (from region : ℕ) (form : RegionForm) → with_it from ≡ Some form → IsIn (form_leads (region_tree table from) form) region → IsIn now region
-    behind_now from region form has h = by (form_among table limits extent forms last from chosen form has)
+    behind_now from region form has h = by (form_among table initial limits extent forms last from chosen form has)
       where
         by : ((from ≡ last) × (chosen ≡ form)) ⊎ (forms from ≡ Some form) → IsIn now region
         by (inl k) =
@@ -352,7 +352,7 @@ module _ (table : Table) (keeps : TableKeeps table) (limits : Limits) (extent : 
         }
 
   -- what is kept, whatever was chosen
-  pub chosen_stands : (found : List ℕ) (choices : List Choice) (forms : ℕ → Option RegionForm) → Choosing table limits extent found choices forms
+  pub chosen_stands : (found : List ℕ) (choices : List Choice) (forms : ℕ → Option RegionForm) → Choosing table initial limits extent found choices forms
       → Stands found choices forms
   chosen_stands found choices forms Begins = begins_stands
   chosen_stands found choices forms (Takes {found = before} {choices = had} {forms = old} {region = last} {chosen = chosen} {kind = kind} {causes = causes} choosing next gets) =

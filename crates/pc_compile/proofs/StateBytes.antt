@@ -23,7 +23,7 @@ use Rattle.pc_automaton.specs.declared.automaton.AutomatonState.{AutomatonState 
 use Rattle.pc_automaton.specs.Automaton.{states_in, AutomatonState, Takes, LeafLeads, IsStateAmong, IsAutomaton}
 use Rattle.pc_automaton.specs.There.{LeafIsThere, StateIsThere}
 use Rattle.pc_automaton.specs.RowFits.{RowFits}
-use Rattle.pc_assign.specs.Pressure.{LowBefore}
+use Rattle.pc_assign.specs.Pressure.{most_scratch, LowBefore}
 use Rattle.pc_emit.specs.Bytes.{leaf_bytes, row_bytes, states_bytes}
 use Rattle.pc_compile.proofs.Places.{listed}
 use Rattle.pc_word.specs.StoredRow.{row_in}
@@ -47,13 +47,13 @@ item_most (More dest) = omega arith
 
 -- ---- rows
 
--- a leaf with at most 127 arguments or homes
+-- a leaf with at most 255 arguments or homes
 abbrev pub leaf_limit : ℕ
-leaf_limit = 3053
+leaf_limit = 6125
 
 -- a row has a leaf more than tests
 row_most : (row : Row AutomatonLeaf) → AllByRecursion (λ leaf. leaf_bytes leaf ≤ leaf_limit) (leaves_of row)
-    → row_bytes row ≤ 13 * length (items_of row) + 3059 * length (tests_of row) + leaf_limit
+    → row_bytes row ≤ 13 * length (items_of row) + 6131 * length (tests_of row) + leaf_limit
 row_most (Then item rest) all =
     let here = item_most item in
     let below = row_most rest all in
@@ -98,20 +98,20 @@ live_few table keeps region = by (slice_get table.regions region) refl (λ x h. 
     by None e small = omega arith
     by (Some here) e small = rising_few here.live 96 (keeps.each region here e).rising small
 
-pub takes_few : (states : List AutomatonState) → LowBefore states (length states) → (number count : ℕ) → Takes (slice_get states number) count → count ≤ 127
-takes_few states low number count takes = by (slice_get states number) refl takes
+pub takes_few : (scratch : ℕ) (states : List AutomatonState) → LowBefore scratch states (length states) → (number count : ℕ) → Takes (slice_get states number) count → count ≤ scratch
+takes_few scratch states low number count takes = by (slice_get states number) refl takes
   where
-    by : (found : Option AutomatonState) → slice_get states number ≡ found → Takes found count → count ≤ 127
+    by : (found : Option AutomatonState) → slice_get states number ≡ found → Takes found count → count ≤ scratch
     by None e takes = absurd takes
     by (Some state) e takes =
         let lt = slice_get_within states number state e in
         let few = low number state lt e in
         omega (arith, few)
 
-leaf_most : (table : Table) → TableKeeps table → (states : List AutomatonState) → LowBefore states (length states) → (leaf : AutomatonLeaf)
+leaf_most : (table : Table) → TableKeeps table → (states : List AutomatonState) → LowBefore most_scratch states (length states) → (leaf : AutomatonLeaf)
     → LeafLeads states leaf → LeafIsThere table leaf → leaf_bytes leaf ≤ leaf_limit
 leaf_most table keeps states low (To number arguments) leads there =
-    let few = takes_few states low number (length arguments) leads in omega (arith, few)
+    let few = takes_few most_scratch states low number (length arguments) leads in omega (arith, few)
 leaf_most table keeps states low (Out region homes) leads there =
     let as_many = sym (map_length (λ (home : Home). home.variable) homes) ∙ ap length there.live in
     let few = live_few table keeps region in
@@ -126,9 +126,9 @@ all_both_hold P Q R [] f h k = tt
 all_both_hold P Q R (x ∷ xs) f h k = (f x h.0 k.0, all_both_hold P Q R xs f h.1 k.1)
 
 abbrev pub row_limit : ℕ
-row_limit = 24882
+row_limit = 49458
 
-state_most : (table : Table) → TableKeeps table → (limits : Limits) → AreLimits limits → (states : List AutomatonState) → LowBefore states (length states)
+state_most : (table : Table) → TableKeeps table → (limits : Limits) → AreLimits limits → (states : List AutomatonState) → LowBefore most_scratch states (length states)
     → (state : AutomatonState) → IsStateAmong states state → StateIsThere table state → RowFits limits state.row → row_bytes state.row ≤ row_limit
 state_most table keeps limits ranges states low state among there fits =
     let leaves =
@@ -145,10 +145,10 @@ bytes_most : (states : List AutomatonState) → AllByRecursion (λ state. row_by
 bytes_most [] all = omega arith
 bytes_most (state ∷ states) all = let here = all.0 in let rest = bytes_most states all.1 in omega (arith, here, rest)
 
--- the rows of at most 512 states are shorter than an object may be
+-- the rows of at most 512 states are shorter than twice what an object may be
 pub states_short : (table : Table) → TableKeeps table → (limits : Limits) → AreLimits limits → (states : List AutomatonState) → IsAutomaton states
-    → LowBefore states (length states) → AllByRecursion (StateIsThere table) states → AllByRecursion (λ state. RowFits limits state.row) states
-    → length states ≤ most_rows → states_bytes states ≤ most_object
+    → LowBefore most_scratch states (length states) → AllByRecursion (StateIsThere table) states → AllByRecursion (λ state. RowFits limits state.row) states
+    → length states ≤ most_rows → states_bytes states ≤ 2 * most_object
 states_short table keeps limits ranges states automaton low there fits few =
     let both =
     all_both_hold (IsStateAmong states) (StateIsThere table) (λ state. IsStateAmong states state × StateIsThere table state) states

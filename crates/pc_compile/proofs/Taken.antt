@@ -1,7 +1,7 @@
 -- Regions that were found while forms are chosen: each once, and those that have a form were taken.
 use Rattle.std.proofs.Common.{◌≡◌, ℕ, zero, suc, ◌<◌, ◌≤◌, ◌⊎◌, inl, inr, Bool, true, false, cond}
 use Rattle.std.proofs.Common.{List, [], ◌∷◌, ◌++◌, length, Option, Some, None, refl, sym, ◌∙◌, ap, arith}
-use Rattle.std.specs.Prelude.{nat_eq, slice_get}
+use Rattle.std.specs.Prelude.{ℤ, nat_eq, slice_get}
 use Rattle.std.specs.List.{list_any}
 use Rattle.std.proofs.lemmas.Option.{slice_get_within}
 use Rattle.pc_word.specs.declared.item.Limits.{Limits}
@@ -61,13 +61,13 @@ with_regions_keep found (region ∷ regions) place at e =
 
 -- ---- while forms are chosen
 
-module _ (table : Table) (limits : Limits) (extent : Extent) where
+module _ (table : Table) (initial : List (List ℤ)) (limits : Limits) (extent : Extent) where
   begins_once : IsOnce (0 ∷ [])
   begins_once zero zero region here there = refl
   begins_once zero (suc other) region here there = absurd (cc)
   begins_once (suc one) other region here there = absurd (cc)
 
-  pub found_once : (found : List ℕ) (choices : List Choice) (forms : ℕ → Option RegionForm) → Choosing table limits extent found choices forms → IsOnce found
+  pub found_once : (found : List ℕ) (choices : List Choice) (forms : ℕ → Option RegionForm) → Choosing table initial limits extent found choices forms → IsOnce found
   found_once found choices forms Begins = begins_once
   found_once found choices forms (Takes {found = before} {choices = earlier} {forms = had} {region = last} {chosen = chosen} choosing next gets) =
       with_regions_once before (form_leads (region_tree table last) chosen) (found_once before earlier had choosing)
@@ -88,7 +88,7 @@ module _ (table : Table) (limits : Limits) (extent : Extent) where
       by true e has = inl (same_number other region e, cc)
       by false e has = inr has
 
-  pub taken_of_form : (found : List ℕ) (choices : List Choice) (forms : ℕ → Option RegionForm) → Choosing table limits extent found choices forms
+  pub taken_of_form : (found : List ℕ) (choices : List Choice) (forms : ℕ → Option RegionForm) → Choosing table initial limits extent found choices forms
       → (region : ℕ) (form : RegionForm) → forms region ≡ Some form → IsTaken found choices region
   taken_of_form found choices forms Begins region form has = absurd (cc)
   taken_of_form found choices forms
@@ -109,7 +109,7 @@ module _ (table : Table) (limits : Limits) (extent : Extent) where
       }
 
   -- the region that is taken next has no form yet
-  pub next_is_free : (found : List ℕ) (choices : List Choice) (forms : ℕ → Option RegionForm) → Choosing table limits extent found choices forms
+  pub next_is_free : (found : List ℕ) (choices : List Choice) (forms : ℕ → Option RegionForm) → Choosing table initial limits extent found choices forms
       → (region : ℕ) → slice_get found (length choices) ≡ Some region → forms region ≡ None
   next_is_free found choices forms choosing region next = by (forms region) refl
     where
@@ -122,7 +122,7 @@ module _ (table : Table) (limits : Limits) (extent : Extent) where
           absurd (omega (arith, same, lt))
 
   -- no more are taken than were found
-  pub taken_few : (found : List ℕ) (choices : List Choice) (forms : ℕ → Option RegionForm) → Choosing table limits extent found choices forms
+  pub taken_few : (found : List ℕ) (choices : List Choice) (forms : ℕ → Option RegionForm) → Choosing table initial limits extent found choices forms
       → length choices ≤ length found
   taken_few found choices forms Begins = omega arith
   taken_few found choices forms (Takes {found = before} {choices = earlier} {forms = had} {region = last} {chosen = chosen} {kind = kind} {causes = causes} choosing next gets) =

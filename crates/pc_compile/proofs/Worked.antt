@@ -22,13 +22,13 @@ abbrev plain : ℕ → Option RegionForm
 plain region = Some Plain
 
 -- it prints and stops, each of which may take a cycle, and one more may pass before
-printed : schedule_run seven plain [] 1 ≡ record { printed = pos 7 ∷ []; end = None }
+printed : schedule_run seven plain [] [] 1 ≡ record { printed = pos 7 ∷ []; end = None }
 printed = refl
 
-stopped : schedule_run seven plain [] 2 ≡ record { printed = pos 7 ∷ []; end = Some Ended }
+stopped : schedule_run seven plain [] [] 2 ≡ record { printed = pos 7 ∷ []; end = Some Ended }
 stopped = refl
 
-stopped_cost : schedule_cost seven plain 4 [] 5 ≡ 3
+stopped_cost : schedule_cost seven plain 4 [] [] 5 ≡ 3
 stopped_cost = refl
 
 -- a state that prints a name, and passes two to itself
@@ -36,14 +36,14 @@ abbrev swapping : List AutomatonState
 swapping = record { parameters = 0 ∷ 1 ∷ []; row = Then (Print (Name 0)) (At_leaf (To 0 (Name 1 ∷ Name 0 ∷ []))) } ∷ []
 
 abbrev packed : ℕ → Option RegionForm
-packed region = Some (ByAutomaton swapping (λ number name. Some name))
+packed region = Some (ByAutomaton swapping (record { of = λ number name. Some name; scratch = 127 }))
 
 -- three rows print three times; each may take two cycles where two copies stand in a row, and five where one does
-printed_thrice : schedule_run seven packed [] 3 ≡ record { printed = pos 0 ∷ pos 0 ∷ pos 0 ∷ []; end = None }
+printed_thrice : schedule_run seven packed [] [] 3 ≡ record { printed = pos 0 ∷ pos 0 ∷ pos 0 ∷ []; end = None }
 printed_thrice = refl
 
-wide_cost : schedule_cost seven packed 2 [] 3 ≡ 6
+wide_cost : schedule_cost seven packed 2 [] [] 3 ≡ 6
 wide_cost = refl
 
-narrow_cost : schedule_cost seven packed 1 [] 3 ≡ 15
+narrow_cost : schedule_cost seven packed 1 [] [] 3 ≡ 15
 narrow_cost = refl

@@ -11,4 +11,5 @@ use Rattle.pc_compile.specs.ScheduleRun.{schedule_run, schedule_cost}
 -- after them: while the schedule goes on, the beginning of what the code has printed, and where it has ended, the same end
 abbrev pub KeepsPaceOn : Table → (ℕ → Option RegionForm) → RowCode → List ℤ → Type 0
 KeepsPaceOn table forms code input =
-    (n : ℕ) → Answers (schedule_run table forms input n) (machine_run code input (schedule_cost table forms code.limits.ops input n)) (schedule_run table forms input n).end
+    (n : ℕ) → Answers (schedule_run table forms code.initial input n)
+    (machine_run code input (schedule_cost table forms code.limits.ops code.initial input n)) (schedule_run table forms code.initial input n).end

@@ -69,9 +69,10 @@ abbrev pub schedule_step : Table → (forms : ℕ → Option RegionForm) → Sch
 schedule_step table forms (At_tree tree s) = tree_step table forms tree s
 schedule_step table forms (At_state region states number s) = schedule_state_step table forms region states (slice_get states number) s
 
--- the schedule's run: so many rows, and items and tests of plain regions, from region 0 and with all variables and elements 0
-abbrev pub schedule_run : Table → (forms : ℕ → Option RegionForm) → List ℤ → Run
-schedule_run table forms input n = run_from (schedule_step table forms) n (begins_at table forms 0 (start_state input))
+-- the schedule's run: so many rows, and items and tests of plain regions, from region 0 and with all variables 0, on arrays that
+-- begin with these data
+abbrev pub schedule_run : Table → (forms : ℕ → Option RegionForm) → (initial : List (List ℤ)) → List ℤ → Run
+schedule_run table forms initial input n = run_from (schedule_step table forms) n (begins_at table forms 0 (start_state initial input))
 
 -- ---- cost
 
@@ -121,6 +122,6 @@ start_cost (Some Plain) = 1
 start_cost (Some (ByAutomaton states registers)) = 0
 
 -- what so many steps of the schedule may cost
-abbrev pub schedule_cost : Table → (ℕ → Option RegionForm) → (ops : ℕ) → List ℤ → ℕ → ℕ
-schedule_cost table forms ops input n =
-    start_cost (forms 0) + cost_from (schedule_step table forms) (step_cost table.arrays ops) n (begins_at table forms 0 (start_state input))
+abbrev pub schedule_cost : Table → (ℕ → Option RegionForm) → (ops : ℕ) → (initial : List (List ℤ)) → List ℤ → ℕ → ℕ
+schedule_cost table forms ops initial input n =
+    start_cost (forms 0) + cost_from (schedule_step table forms) (step_cost table.arrays ops) n (begins_at table forms 0 (start_state initial input))

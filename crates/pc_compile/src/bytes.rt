@@ -1,10 +1,12 @@
 //! The bytes that are counted for regions in their forms.
-ghost use Rattle.std.specs.Prelude.{◌≡◌, ◌<◌, ◌≤◌, ◌^◌, None, length};
+ghost use Rattle.std.specs.Prelude.{◌≡◌, ◌<◌, ◌≤◌, ◌*◌, ◌^◌, None, length};
 ghost use Rattle.pc_word.specs.MachineLimits.{most_object};
 ghost use Rattle.pc_table.specs.Table.{table_tree, table_regions};
 ghost use Rattle.pc_table.specs.StoredTable.{table_of};
 ghost use Rattle.pc_automaton.specs.Automaton.{states_in};
 ghost use Rattle.pc_emit.specs.Bytes.{leaf_bytes, row_bytes, states_bytes, tree_bytes, plain_bytes, object_bytes};
+ghost use Rattle.pc_object.specs.declared.version.Version.TheVariants.{Ptv2};
+ghost use Rattle.pc_object.specs.Sizes.{initial_bytes};
 ghost use Rattle.pc_compile.specs.models.Counting.{all_plain_bytes};
 ghost use Rattle.pc_word.specs.StoredRow.{row_in};
 
@@ -14,20 +16,41 @@ use pc_object::{
     item_bytes, test_bytes,
 };
 use pc_table::{Region, RegionTable, RegionTree};
-use pc_word::RowTree;
+use pc_word::{DataList, RowTree, WordList};
 
 /// The bytes of the two rows of one copy that are counted for each argument or home that is passed.
 const PASSED_BYTES: u32 = 24;
 
-/// The bytes of a table's object while all its regions are plain.
-pub(crate) fn object_bytes(table: &RegionTable) -> u32
-    requires { object_bytes (table_of table.now) (λ region. None) ≤ most_object }
-    ensures { result ≡ object_bytes (table_of table.now) (λ region. None) }
+/// The bytes of the number of registers, which the header of `PTV2` has more than that of `PTV1`.
+const REGISTERS_BYTES: u32 = 2;
+
+/// The bytes of the count of an array's words, and of a word.
+const WORD_BYTES: u32 = 4;
+
+/// The bytes of a table's object while all its regions are plain, where its arrays begin with these data.
+pub(crate) fn object_bytes(table: &RegionTable, initial: &DataList) -> u32
+    requires { object_bytes (table_of table.now) initial.now (λ region. None) ≤ most_object }
+    ensures { result ≡ object_bytes (table_of table.now) initial.now (λ region. None) }
 {
     let regions = all_plain_bytes(table.regions.as_slice());
     let arrays = table.arrays.len() as u32;
+    let data = data_bytes(initial.as_slice());
     let loops = table.loops.len() as u32;
-    HEADER_BYTES + LENGTH_BYTES * arrays + (regions + (COUNT_BYTES + NOTE_BYTES * loops))
+    (HEADER_BYTES + REGISTERS_BYTES)
+        + (LENGTH_BYTES * arrays + data)
+        + (regions + (COUNT_BYTES + NOTE_BYTES * loops))
+}
+
+/// The bytes of the data of arrays.
+fn data_bytes(initial: &[WordList]) -> u32
+    requires { initial_bytes Ptv2 initial.now ≤ most_object }
+    ensures { result ≡ initial_bytes Ptv2 initial.now }
+{
+    let mut bytes = 0;
+    for words in initial {
+        bytes += WORD_BYTES + WORD_BYTES * words.len() as u32;
+    }
+    bytes
 }
 
 /// The bytes of regions that are all plain.
@@ -67,7 +90,7 @@ fn tree_bytes(tree: &RegionTree) -> u32
 /// The bytes of the rows of states.
 pub(crate) fn states_bytes(automaton: &Automaton) -> u32
     requires count { length automaton.now < 2 ^ 32 }
-    requires few { states_bytes (states_in automaton.now) ≤ most_object }
+    requires few { states_bytes (states_in automaton.now) ≤ 2 * most_object }
     ensures { result ≡ states_bytes (states_in automaton.now) }
 {
     let mut bytes = 0;
@@ -79,7 +102,7 @@ pub(crate) fn states_bytes(automaton: &Automaton) -> u32
 
 /// The bytes of a row.
 fn row_bytes(row: &RowTree<AutomatonLeaf>) -> u32
-    requires { row_bytes (row_in (λ leaf. leaf) row.now) ≤ most_object }
+    requires { row_bytes (row_in (λ leaf. leaf) row.now) ≤ 2 * most_object }
     ensures { result ≡ row_bytes (row_in (λ leaf. leaf) row.now) }
 {
     match row {
@@ -91,7 +114,7 @@ fn row_bytes(row: &RowTree<AutomatonLeaf>) -> u32
 
 /// The bytes of a leaf, with the copies that pass its arguments or homes.
 fn leaf_bytes(leaf: &AutomatonLeaf) -> u32
-    requires { leaf_bytes leaf.now ≤ most_object }
+    requires { leaf_bytes leaf.now ≤ 2 * most_object }
     ensures { result ≡ leaf_bytes leaf.now }
 {
     match leaf {

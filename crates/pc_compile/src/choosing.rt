@@ -1,5 +1,5 @@
 //! Choosing forms, region by region.
-ghost use Rattle.std.specs.Prelude.{◌≡◌, ◌<◌, ◌≤◌, ◌++◌, ◌∷◌, [], suc, Some, None, length, replicate, slice_get, slice_set, IfOk, OnOk};
+ghost use Rattle.std.specs.Prelude.{◌≡◌, ◌<◌, ◌≤◌, ◌++◌, ◌∷◌, ℤ, List, [], suc, Some, None, length, replicate, slice_get, slice_set, IfOk, OnOk};
 ghost use Rattle.pc_word.specs.declared.item.Limits.{Limits};
 ghost use Rattle.pc_word.specs.declared.item.Extent.{Extent};
 ghost use Rattle.pc_word.specs.Ranges.{AreLimits, IsExtent};
@@ -8,7 +8,7 @@ ghost use Rattle.pc_table.specs.StoredTable.{table_of};
 ghost use Rattle.pc_emit.specs.Bytes.{object_bytes};
 ghost use Rattle.pc_emit.specs.Emitting.{region_forms};
 ghost use Rattle.pc_compile.specs.Choosing.{AreChosen, choice_of};
-ghost use Rattle.pc_compile.specs.models.Progress.{IsChoosing};
+ghost use Rattle.pc_compile.specs.models.Progress.{IsChoosing, IsChoosingWithSome};
 
 use crate::bytes::{object_bytes, plain_bytes};
 use crate::choice::{Choice, Chosen};
@@ -18,7 +18,7 @@ use crate::giving::{Given, form_for};
 use crate::leading::find_behind;
 use crate::{ChoiceList, FormList};
 use pc_table::RegionTable;
-use pc_word::{Extent, Limits};
+use pc_word::{DataList, Extent, Limits};
 use std::alloc::{AllocError, Global};
 
 /// The regions that were found, what was chosen for the first of them, and the bytes of the object
@@ -34,21 +34,22 @@ pub(crate) struct Progress {
 /// the first that is not refused.
 ///
 /// It takes at most two searches for the header of an innermost loop, and one for each other region. It
-/// fails where memory runs out. The object of the table with all its regions plain is short enough, so
-/// that a region may always be plain.
+/// fails where memory runs out. The object of the table with all its regions plain is short enough, with
+/// these data of its arrays, so that a region may always be plain.
 pub fn choose(
     alloc: Global,
     table: &RegionTable,
+    initial: &DataList,
     limits: Limits,
     extent: Extent,
 ) -> Result<Chosen, ChooseError>
     requires limits { AreLimits limits }
     requires extent { IsExtent extent }
-    requires small { object_bytes (table_of table.now) (λ region. None) ≤ most_object }
-    ensures chosen { IfOk result (λ it. AreChosen (table_of table.now) limits extent it.choices (region_forms it.forms)) }
+    requires small { object_bytes (table_of table.now) initial.now (λ region. None) ≤ most_object }
+    ensures chosen { IfOk result (λ it. AreChosen (table_of table.now) initial.now limits extent it.choices (region_forms it.forms)) }
     ensures count { IfOk result (λ it. length it.forms ≡ length table.now.regions) }
 {
-    let mut progress = begun(alloc, table)?;
+    let mut progress = begun(alloc, table, initial)?;
     while let Some(region) = progress.found.region(progress.chosen.choices.len()) {
         take(alloc, table, limits, extent, region, &mut progress)?;
     }
@@ -56,9 +57,9 @@ pub fn choose(
 }
 
 /// Region 0 was found, and none was taken.
-fn begun(alloc: Global, table: &RegionTable) -> Result<Progress, AllocError>
-    requires small { object_bytes (table_of table.now) (λ region. None) ≤ most_object }
-    ensures { IfOk result (λ progress. (limits : Limits) (extent : Extent) → IsChoosing (table_of table.now) limits extent progress) }
+fn begun(alloc: Global, table: &RegionTable, initial: &DataList) -> Result<Progress, AllocError>
+    requires small { object_bytes (table_of table.now) initial.now (λ region. None) ≤ most_object }
+    ensures { IfOk result (λ progress. (limits : Limits) (extent : Extent) → IsChoosing (table_of table.now) initial.now limits extent progress) }
 {
     let count = table.regions.len();
     let mut found = Found::new(alloc, count)?;
@@ -70,7 +71,7 @@ fn begun(alloc: Global, table: &RegionTable) -> Result<Progress, AllocError>
     Ok(Progress {
         found,
         chosen,
-        bytes: object_bytes(table),
+        bytes: object_bytes(table, initial),
     })
 }
 
@@ -96,10 +97,11 @@ fn take(
 ) -> Result<(), ChooseError>
     requires limits { AreLimits limits }
     requires extent { IsExtent extent }
-    requires choosing { IsChoosing (table_of table.now) limits extent progress.old }
+    requires choosing { IsChoosingWithSome (table_of table.now) limits extent progress.old }
     requires there { region < length table.now.regions }
     requires next { slice_get progress.old.found.order (length progress.old.chosen.choices) ≡ Some region }
-    ensures choosing { OnOk result (IsChoosing (table_of table.now) limits extent progress.new) }
+    ensures choosing { (initial : List (List ℤ)) → IsChoosing (table_of table.now) initial limits extent progress.old
+        → OnOk result (IsChoosing (table_of table.now) initial limits extent progress.new) }
     ensures taken { OnOk result (length progress.new.chosen.choices ≡ suc (length progress.old.chosen.choices)) }
 {
     let tree = table.tree(region);

@@ -16,6 +16,7 @@ mod laws;
 mod leading;
 mod notes;
 mod program;
+mod registers;
 mod trying;
 
 pub use choice::{Cause, Choice, Chosen, Form};

@@ -3,7 +3,7 @@ ghost use Rattle.std.specs.Prelude.{◌≡◌, ◌<◌, ◌≤◌, suc, length, 
 ghost use Rattle.pc_word.specs.Ranges.{AreLimits, IsExtent};
 ghost use Rattle.pc_word.specs.MachineLimits.{most_object};
 ghost use Rattle.pc_table.specs.StoredTable.{table_of};
-ghost use Rattle.pc_assign.specs.Pressure.{allowed};
+ghost use Rattle.pc_assign.specs.Pressure.{most_scratch};
 ghost use Rattle.pc_compile.specs.declared.trying.Attempt.TheVariants.{Refused};
 ghost use Rattle.pc_compile.specs.declared.choice.Cause.TheVariants.{Rows, Live, Bytes};
 ghost use Rattle.pc_compile.specs.Choosing.{pipelines};
@@ -12,8 +12,9 @@ ghost use Rattle.pc_compile.specs.models.Giving.{bytes_of, IsAttempt};
 use crate::bytes::states_bytes;
 use crate::choice::Cause;
 use crate::choose_error::ChooseError;
-use pc_assign::{AssignError, Assigned, SCRATCH, assign};
+use pc_assign::{AssignError, Assigned, assign};
 use pc_automaton::Automaton;
+use pc_machine::MOST_REGISTERS;
 use pc_pattern::{SearchError, search};
 use pc_table::RegionTable;
 use pc_word::{Extent, Limits, MOST_OBJECT};
@@ -84,12 +85,12 @@ fn many_rows(rows: u16) -> Attempt
 /// A form is refused, since so many names are live together. A number that has no place in a cause,
 /// which is 2^32 or more, is want of memory.
 fn high_pressure(live: u64) -> Result<Attempt, ChooseError>
-    ensures { IfOk result (λ attempt. attempt ≡ Refused (Live live allowed)) }
+    ensures { IfOk result (λ attempt. attempt ≡ Refused (Live live most_scratch)) }
 {
     let Ok(number) = u32::try_from(live) else {
         return Err(ChooseError::Memory);
     };
-    let limit = SCRATCH;
+    let limit = MOST_REGISTERS as u32 - 1;
     Ok(Attempt::Refused {
         cause: Cause::Live { number, limit },
     })

@@ -1,5 +1,5 @@
 -- Rows that do what was taken out of a table, and in the end all moves at once.
-use Rattle.std.proofs.Common.{◌≡◌, ◌≢◌, ◌⊎◌, inl, inr, ℕ, zero, suc, ◌+◌, ◌<◌, ◌≤◌, Bool}
+use Rattle.std.proofs.Common.{◌≡◌, ◌≢◌, ◌⊎◌, inl, inr, ℕ, zero, suc, ◌+◌, ◌<◌, ◌≤◌, Bool, ◌||◌, eq-eqb}
 use Rattle.std.proofs.Common.{true, false, List, [], ◌∷◌, ◌++◌, length, map, drop, reverse, get_or, Option}
 use Rattle.std.proofs.Common.{Some, None, refl, sym, ◌∙◌, ap, subst, arith}
 use Rattle.std.specs.Prelude.{ℤ, if◌then◌else◌, nat_eq, slice_get}
@@ -8,20 +8,21 @@ use Rattle.std.proofs.lemmas.Bool.{cases_eq}
 use Rattle.std.proofs.lemmas.List.{reverse-append}
 use Rattle.std.proofs.lemmas.Option.{slice_get_within, slice_get-get_or}
 use Rattle.pc_word.specs.declared.item.Operand.{Operand}
-use Rattle.pc_word.specs.declared.item.Operand.TheVariants.{Name, Lit}
+use Rattle.pc_word.specs.declared.item.Operand.TheVariants.{Name}
 use Rattle.pc_word.specs.State.{State}
 use Rattle.pc_word.specs.Items.{operand_value, dest_of}
 use Rattle.pc_word.specs.Commit.{names_after, stores_of, cells_after, reads_of}
 use Rattle.pc_word.proofs.Lists.{all_imply, all_both}
+use Rattle.pc_word.proofs.Truth.{or_first, or_second}
 use Rattle.pc_copies.specs.declared.moves.Move.{Move}
-use Rattle.pc_copies.specs.Moves.{IsMoveSource, IsReadable, IsCopy, AreMoves, AreDone, nontrivial_moves, copy_of, after_copies, after_rows, IsCopyRow, IsFullRow, AreCopies, IsArranged}
+use Rattle.pc_copies.specs.Moves.{IsMoveSource, IsCopy, is_name, one_names, AreMoves, AreDone, nontrivial_moves, copy_of, after_copies, after_rows, IsCopyRow, IsFullRow, AreCopies, IsArranged}
 use Rattle.pc_copies.specs.models.Sources.{taken, moved, source_in, first_of, over, IsRead, Unread, IsWritten, Apart, back, Do}
-use Rattle.pc_copies.specs.models.Packing.{AddsRing, WritesOnce, IsFull, Avoids, IsClean}
+use Rattle.pc_copies.specs.models.Packing.{AddsRing, AreNamed, WritesOnce, IsFull, Avoids, IsClean}
 use Rattle.pc_copies.specs.models.Placing.{IsWay}
 use Rattle.pc_copies.specs.models.Following.{source_at, AreSources, Followed}
 use Rattle.pc_copies.specs.models.Arranging.{IsMove, AreApart, IsTable, Arranging, IsPacked, if_any}
 use Rattle.pc_copies.proofs.Copies.{copies_any, copies_in_order}
-use Rattle.pc_copies.proofs.Rows.{do_same}
+use Rattle.pc_copies.proofs.Rows.{do_same, named_copies}
 use Rattle.pc_copies.proofs.Singles.{apart_tests, unwritten}
 use Rattle.pc_copies.proofs.Unwinding.{leads_reads}
 use Rattle.pc_copies.proofs.Rings.{all_clean}
@@ -29,22 +30,48 @@ use Rattle.pc_copies.proofs.Kept.{Found, found, all_found, all_sources, given_on
 
 -- ---- moves that leave scratch alone
 
-source_read : (scratch : ℕ) (from : Operand) → IsMoveSource scratch from → IsReadable scratch from
-source_read scratch (Name register) is = inl is.below
-source_read scratch (Lit value) is = tt
-
-move_copy : (scratch : ℕ) (move : Move) → IsMove scratch move → IsCopy scratch move
-move_copy scratch move is = record { dest = inl is.dest.below; from = source_read scratch move.from is.from }
-
 move_avoids : (scratch : ℕ) (move : Move) → IsMove scratch move → Avoids scratch move
 move_avoids scratch move is = record {
-  copy = move_copy scratch move is;
   writes = is.dest.other;
   reads = λ e. (subst (IsMoveSource scratch) e is.from).other refl;
 }
 
 moves_clean : (scratch : ℕ) (moves : List Move) → AreApart scratch moves → IsClean scratch moves
 moves_clean scratch moves are = all_clean scratch moves (all_imply (IsMove scratch) (Avoids scratch) moves (move_avoids scratch) are.all)
+
+-- ---- registers that moves name
+
+-- what moves write and read, they name
+move_names : (moves : List Move) (register : ℕ) (from : Operand) → source_in moves register ≡ Some from
+    → (one_names moves register ≡ true) × ((read : ℕ) → from ≡ Name read → one_names moves read ≡ true)
+move_names [] register from e = absurd (cc)
+move_names (move ∷ moves) register from e = by_test (nat_eq move.dest register) refl e (move_names moves register from)
+  where
+    reads : (read : ℕ) → move.from ≡ Name read → one_names (move ∷ moves) read ≡ true
+    reads read is =
+        let named : is_name move.from read ≡ true = ap (λ (o : Operand). is_name o read) is ∙ eq-eqb read read refl in
+        or_first (nat_eq move.dest read || is_name move.from read) (one_names moves read) (or_second (nat_eq move.dest read) (is_name move.from read) named)
+
+    by_test : (b : Bool) → nat_eq move.dest register ≡ b → (if b then Some move.from else source_in moves register) ≡ Some from
+        → (source_in moves register ≡ Some from → (one_names moves register ≡ true) × ((read : ℕ) → from ≡ Name read → one_names moves read ≡ true))
+        → (one_names (move ∷ moves) register ≡ true) × ((read : ℕ) → from ≡ Name read → one_names (move ∷ moves) read ≡ true)
+    by_test true t is later =
+        let same : move.from ≡ from = (cc) in (
+          or_first (nat_eq move.dest register || is_name move.from register) (one_names moves register)
+              (or_first (nat_eq move.dest register) (is_name move.from register) t),
+          λ read name. reads read (same ∙ name),
+        )
+    by_test false t is later =
+        let rest = later is in (
+          or_second (nat_eq move.dest register || is_name move.from register) (one_names moves register) rest.0,
+          λ read name. or_second (nat_eq move.dest read || is_name move.from read) (one_names moves read) (rest.1 read name),
+        )
+
+moves_named : (moves : List Move) → AreNamed (one_names moves) (source_in moves)
+moves_named moves = record {
+  dests = λ register from e. (move_names moves register from e).0;
+  reads = λ register read e. (move_names moves register (Name read) e).1 read refl;
+}
 
 -- ---- so far
 
@@ -196,6 +223,12 @@ module _ (ops scratch : ℕ) (moves : List Move) (at : ℕ) (table later_table :
       ]
     ]
 
+    path_named : AreNamed (one_names moves) (source_in path)
+    path_named = record {
+      dests = λ register from e. (moves_named moves).dests register from (path_source register from e);
+      reads = λ register read e. (moves_named moves).reads register read (path_source register (Name read) e);
+    }
+
     pub arranged_more : Arranging ops scratch moves (at + 1) later_table later now
     arranged_more = record {
       are = left_table;
@@ -204,7 +237,7 @@ module _ (ops scratch : ℕ) (moves : List Move) (at : ℕ) (table later_table :
       stage = stage_more;
       reads = reads_more;
       row_reads = row_reads_more;
-      fit = adds.fits row_apart so_far.fit;
+      fit = adds.fits (one_names moves) path_named row_apart so_far.fit;
       row_writes = row_writes_more;
       through = through_more;
     }
@@ -371,8 +404,8 @@ unfolding IsDistinct
 distinct_dests [] written = tt
 distinct_dests (move ∷ row) written = (dest_apart move row written.0, distinct_dests row written.1)
 
-full_fits : (ops scratch : ℕ) → 1 ≤ ops → (row : List Move) → IsFull ops scratch row → IsCopyRow ops scratch row
-full_fits ops scratch some row full = record { copies = full.copies; some = omega (arith, some, full.many); few = omega (arith, full.many); once = distinct_dests row full.once }
+full_fits : (named : ℕ → Bool) (ops scratch : ℕ) → 1 ≤ ops → (row : List Move) → IsFull named ops scratch row → IsCopyRow named ops scratch row
+full_fits named ops scratch some row full = record { copies = full.copies; some = omega (arith, some, full.many); few = omega (arith, full.many); once = distinct_dests row full.once }
 
 all_reverse : (P : List Move → Type 0) (rows : List (List Move)) → AllByRecursion P rows → AllByRecursion P (reverse rows)
 all_reverse P [] all = tt
@@ -383,11 +416,11 @@ all_behind : (P : List Move → Type 0) (rows : List (List Move)) → AllByRecur
 all_behind P [] all = tt
 all_behind P (row ∷ rows) all = all.1
 
-first_fits : (ops scratch : ℕ) (first : List Move) (rows : List (List Move)) → length first ≤ ops
-    → AllByRecursion (IsCopy scratch) first → WritesOnce first → AllByRecursion (IsCopyRow ops scratch) rows
-    → AllByRecursion (IsCopyRow ops scratch) (if_any first ++ rows)
-first_fits ops scratch [] rows few copies once all = all
-first_fits ops scratch (move ∷ first) rows few copies once all = (record { copies = copies; some = omega arith; few = few; once = distinct_dests (move ∷ first) once }, all)
+first_fits : (named : ℕ → Bool) (ops scratch : ℕ) (first : List Move) (rows : List (List Move)) → length first ≤ ops
+    → AllByRecursion (IsCopy named scratch) first → WritesOnce first → AllByRecursion (IsCopyRow named ops scratch) rows
+    → AllByRecursion (IsCopyRow named ops scratch) (if_any first ++ rows)
+first_fits named ops scratch [] rows few copies once all = all
+first_fits named ops scratch (move ∷ first) rows few copies once all = (record { copies = copies; some = omega arith; few = few; once = distinct_dests (move ∷ first) once }, all)
 
 rest_full : (ops : ℕ) (first : List Move) (rows : List (List Move)) → AllByRecursion (IsFullRow ops) rows → AllByRecursion (IsFullRow ops) (drop 1 (if_any first ++ rows))
 rest_full ops [] rows all = all_behind (IsFullRow ops) rows all
@@ -398,11 +431,12 @@ pub arranged : (moves : List Move) (ops scratch : ℕ) (rows : List (List Move))
     → IsPacked ops scratch (nontrivial_moves moves) rows first → IsArranged moves ops scratch (if_any first ++ reverse rows)
 arranged moves ops scratch rows first are some many packed =
     let fit = packed.fit in
+    let named = one_names (nontrivial_moves moves) in
     record {
       done = all_done moves ops scratch rows first are packed.does;
-      rows_fit = first_fits ops scratch first (reverse rows) (omega (arith, packed.room)) fit.copies fit.once
-          (all_reverse (IsCopyRow ops scratch) rows (all_imply (IsFull ops scratch) (IsCopyRow ops scratch) rows (full_fits ops scratch some) fit.full));
-      full = rest_full ops first (reverse rows) (all_reverse (IsFullRow ops) rows (all_imply (IsFull ops scratch) (IsFullRow ops) rows (λ row full. record { full = full.many }) fit.full));
+      rows_fit = first_fits named ops scratch first (reverse rows) (omega (arith, packed.room)) fit.copies fit.once
+          (all_reverse (IsCopyRow named ops scratch) rows (all_imply (IsFull named ops scratch) (IsCopyRow named ops scratch) rows (full_fits named ops scratch some) fit.full));
+      full = rest_full ops first (reverse rows) (all_reverse (IsFullRow ops) rows (all_imply (IsFull named ops scratch) (IsFullRow ops) rows (λ row full. record { full = full.many }) fit.full));
       copies = subst (AreCopies (nontrivial_moves moves)) (sym (copies_in_order rows first)) packed.copies;
       one = λ few. absurd (omega (arith, few, many));
     }
@@ -420,11 +454,12 @@ pub arranged_in_one : (moves : List Move) (ops scratch : ℕ) → AreMoves scrat
 arranged_in_one moves ops scratch are few =
     let apart = kept_apart scratch moves are in
     let does : Do scratch [] (nontrivial_moves moves) (source_in (nontrivial_moves moves)) = record { same = λ names x other. refl } in
+    let named = one_names (nontrivial_moves moves) in
     record {
       done = subst (λ (l : List (List Move)). (lengths : List ℕ) (old : State) → AreDone moves scratch old (after_rows lengths l old)) (only (nontrivial_moves moves))
           (all_done moves ops scratch [] (nontrivial_moves moves) are does);
-      rows_fit = subst (AllByRecursion (IsCopyRow ops scratch)) (only (nontrivial_moves moves))
-          (first_fits ops scratch (nontrivial_moves moves) [] few (all_imply (IsMove scratch) (IsCopy scratch) (nontrivial_moves moves) (move_copy scratch) apart.all) apart.once tt);
+      rows_fit = subst (AllByRecursion (IsCopyRow named ops scratch)) (only (nontrivial_moves moves))
+          (first_fits named ops scratch (nontrivial_moves moves) [] few (named_copies named scratch (nontrivial_moves moves) apart.once (moves_named (nontrivial_moves moves))) apart.once tt);
       full = subst (λ (l : List (List Move)). AllByRecursion (IsFullRow ops) (drop 1 l)) (only (nontrivial_moves moves)) (rest_full ops (nontrivial_moves moves) [] tt);
       copies = record { cycles = []; are = tt; among = tt; apart = distinct_dests [] tt; number = let any = copies_any (nontrivial_moves moves) in omega (arith, any) };
       one = λ h. one_at_most (nontrivial_moves moves);

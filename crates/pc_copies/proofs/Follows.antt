@@ -4,7 +4,7 @@ use Rattle.std.specs.Prelude.{ℤ, slice_set}
 use Rattle.std.proofs.lemmas.Bool.{cases_eq}
 use Rattle.pc_word.specs.declared.item.Operand.{Operand}
 use Rattle.pc_word.specs.declared.item.Operand.TheVariants.{Name, Lit}
-use Rattle.pc_word.specs.MachineLimits.{registers}
+use Rattle.pc_machine.specs.Registers.{most_registers}
 use Rattle.pc_word.proofs.Lists.{count_more, set_length}
 use Rattle.pc_copies.specs.declared.moves.Move.{Move}
 use Rattle.pc_copies.specs.Moves.{Leads_to}
@@ -134,7 +134,7 @@ module _ (before now : List (Option Operand)) (begin : ℕ) (path : List Move) (
     | inr apart ↦ set_elsewhere now at x None apart ∙ none
   ]
 
-  named_more : (x register : ℕ) → source_at later x ≡ Some (Name register) → register < registers
+  named_more : (x register : ℕ) → source_at later x ≡ Some (Name register) → register < most_registers
   named_more x register e = elim (cases_eq at x) [
     | inl same ↦ let none = subst (λ (r : ℕ). source_at later r ≡ None) same (set_there now at None within) in absurd (cc)
     | inr apart ↦ so_far.table.named x register (sym (set_elsewhere now at x None apart) ∙ e)
@@ -187,7 +187,7 @@ followed before now begin path at so_far none = record {
 }
 
 -- where nothing was followed yet
-pub following : (table : List (Option Operand)) (begin : ℕ) → AreSources table → begin < registers → Following table table begin [] begin
+pub following : (table : List (Option Operand)) (begin : ℕ) → AreSources table → begin < most_registers → Following table table begin [] begin
 following table begin are below = record {
   table = are;
   below = below;

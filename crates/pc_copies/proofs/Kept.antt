@@ -9,7 +9,7 @@ use Rattle.std.proofs.lemmas.Bool.{cases_eq}
 use Rattle.std.proofs.lemmas.List.{take_more, drop_more, drop_all, length-replicate}
 use Rattle.pc_word.specs.declared.item.Operand.{Operand}
 use Rattle.pc_word.specs.declared.item.Operand.TheVariants.{Name, Lit}
-use Rattle.pc_word.specs.MachineLimits.{registers}
+use Rattle.pc_machine.specs.Registers.{most_registers}
 use Rattle.pc_word.proofs.Lists.{set_length}
 use Rattle.pc_copies.specs.declared.moves.Move.{Move}
 use Rattle.pc_copies.specs.Moves.{AreMoves, is_name, nontrivial_moves}
@@ -183,16 +183,16 @@ none_at (suc count) zero = refl
 none_at (suc count) (suc x) = none_at count x
 
 -- a table without sources
-pub table_none : (moves : List Move) (table : List (Option Operand)) → table ≡ replicate registers None → IsTable (drop (length moves) moves) table
+pub table_none : (moves : List Move) (table : List (Option Operand)) → table ≡ replicate most_registers None → IsTable (drop (length moves) moves) table
 table_none moves table is =
-    let none : List (Option Operand) = replicate registers None in
+    let none : List (Option Operand) = replicate most_registers None in
     subst (IsTable (drop (length moves) moves)) (sym is) (rw (drop_all (length moves) moves (omega arith)) (record {
-      are = record { as_many = length-replicate registers (let none : Option Operand = None in none); named = λ at register e. let there = none_at registers at in absurd (cc) };
-      each = λ x. none_at registers x;
-      left = none_left none (λ x. none_at registers x);
+      are = record { as_many = length-replicate most_registers (let none : Option Operand = None in none); named = λ at register e. let there = none_at most_registers at in absurd (cc) };
+      each = λ x. none_at most_registers x;
+      left = none_left none (λ x. none_at most_registers x);
     }))
 
-below_of : (from : Operand) (register : ℕ) → IsBelow from → from ≡ Name register → register < registers
+below_of : (from : Operand) (register : ℕ) → IsBelow from → from ≡ Name register → register < most_registers
 below_of from register below e = subst IsBelow e below
 
 -- with one source more

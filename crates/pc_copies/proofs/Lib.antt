@@ -3,6 +3,7 @@ pub mod Copies
 pub mod Counts
 pub mod Follows
 pub mod Kept
+pub mod Named
 pub mod Places
 pub mod Rings
 pub mod Rows

@@ -1,5 +1,5 @@
 -- Moves that follow one another, and the cycle that they may end in.
-use Rattle.std.proofs.Common.{◌≡◌, ◌≢◌, ◌⊎◌, inl, inr, ℕ, zero, suc, ◌+◌, ◌-◌, ◌<◌, List, [], ◌∷◌}
+use Rattle.std.proofs.Common.{◌≡◌, ◌≢◌, ◌⊎◌, inl, inr, ℕ, zero, suc, ◌+◌, ◌-◌, ◌<◌, Bool, List, [], ◌∷◌}
 use Rattle.std.proofs.Common.{◌++◌, length, take, drop, get_or, Option, Some, None, refl, sym, ◌∙◌, ap, subst, arith}
 use Rattle.std.specs.Prelude.{ℤ, slice_get, MatchOption}
 use Rattle.std.specs.List.{AllByRecursion}
@@ -12,7 +12,7 @@ use Rattle.pc_word.proofs.Lists.{all_front}
 use Rattle.pc_copies.specs.declared.moves.Move.{Move}
 use Rattle.pc_copies.specs.Moves.{Leads_to}
 use Rattle.pc_copies.specs.models.Sources.{source_in, first_of, over, IsRead, Unread, IsWritten, Apart, Do}
-use Rattle.pc_copies.specs.models.Packing.{AddsRing, RowsFit, WritesOnce, Avoids, Unwinds, IsRing, IsClean, Unwound}
+use Rattle.pc_copies.specs.models.Packing.{AddsRing, AreNamed, RowsFit, WritesOnce, Avoids, Unwinds, IsRing, IsClean, Unwound}
 use Rattle.pc_copies.specs.models.Counting.{Ring_counts, Path_counts}
 use Rattle.pc_copies.specs.models.Placing.{IsWay, IsAt, EndsElsewhere, EndsAt}
 use Rattle.pc_copies.proofs.Rows.{source_both, do_same}
@@ -237,22 +237,36 @@ module _ (path : List Move) (at : ℕ) (way : IsWay path) (ends : EndsAt path at
       ];
     }
 
-    place_fits : Apart (source_in first) (source_in path) → RowsFit ops scratch rows first → RowsFit ops scratch later now
-    place_fits free fit = unwound.adds.fits (row_apart free) (ring.fits (record { apart = λ register h. ring_none register (free.apart register h) }) fit)
+    ring_source : (register : ℕ) (from : Operand) → source_in (drop at path) register ≡ Some from → source_in path register ≡ Some from
+    ring_source register from e = sym (over_path register) ∙ ap (λ o. first_of o (source_in tail register)) e
+
+    tail_source : (register : ℕ) (from : Operand) → source_in tail register ≡ Some from → source_in path register ≡ Some from
+    tail_source register from e =
+        ap (λ (l : List Move). source_in l register) split
+        ∙ source_both tail (ends.move ∷ drop (suc at) path) register
+        ∙ ap (λ o. first_of o (source_in (ends.move ∷ drop (suc at) path) register)) e
+
+    place_fits : (named : ℕ → Bool) → AreNamed named (source_in path) → Apart (source_in first) (source_in path) → RowsFit named ops scratch rows first
+        → RowsFit named ops scratch later now
+    place_fits named are free fit =
+        let in_ring : AreNamed named (source_in (drop at path)) = record {
+          dests = λ register from e. are.dests register from (ring_source register from e);
+          reads = λ register read e. are.reads register read (ring_source register (Name read) e);
+        } in
+        let in_tail : AreNamed named (source_in tail) = record {
+          dests = λ register from e. are.dests register from (tail_source register from e);
+          reads = λ register read e. are.reads register read (tail_source register (Name read) e);
+        } in
+        unwound.adds.fits named in_tail (row_apart free) (ring.fits named in_ring (record { apart = λ register h. ring_none register (free.apart register h) }) fit)
 
     place_writes : (register : ℕ) → IsWritten (source_in now) register → (register ≡ scratch) ⊎ IsWritten (source_in first) register ⊎ IsWritten (source_in path) register
     place_writes register h = elim (unwound.adds.writes register h) [
       | inl early ↦ elim (ring.writes register early) [
         | inl is ↦ inl is
         | inr (inl old) ↦ inr (inl old)
-        | inr (inr here) ↦ inr (inr (record { from = here.from; writes = sym (over_path register) ∙ ap (λ o. first_of o (source_in tail register)) here.writes }))
+        | inr (inr here) ↦ inr (inr (record { from = here.from; writes = ring_source register here.from here.writes }))
       ]
-      | inr moves ↦ inr (inr (record {
-        from = moves.from;
-        writes = ap (λ (l : List Move). source_in l register) split
-            ∙ source_both tail (ends.move ∷ drop (suc at) path) register
-            ∙ ap (λ o. first_of o (source_in (ends.move ∷ drop (suc at) path) register)) moves.writes;
-      }))
+      | inr moves ↦ inr (inr (record { from = moves.from; writes = tail_source register moves.from moves.writes }))
     ]
 
     pub place_adds : AddsRing ops scratch (source_in path) rows first later now

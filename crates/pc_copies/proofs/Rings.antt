@@ -1,18 +1,18 @@
 -- Cycles of moves that are put whole, or broken by a copy through scratch.
-use Rattle.std.proofs.Common.{◌≡◌, ◌≢◌, ◌⊎◌, inl, inr, ℕ, ◌+◌, ◌-◌, ◌<◌, List, [], ◌∷◌}
+use Rattle.std.proofs.Common.{◌≡◌, ◌≢◌, ◌⊎◌, inl, inr, ℕ, ◌+◌, ◌-◌, ◌<◌, Bool, true, List, [], ◌∷◌}
 use Rattle.std.proofs.Common.{◌++◌, length, take, get_or, Option, Some, None, refl, sym, ◌∙◌, ap, subst, arith}
 use Rattle.std.proofs.Common.{length-append}
 use Rattle.std.specs.Prelude.{ℤ}
 use Rattle.std.specs.List.{AllByRecursion}
 use Rattle.std.proofs.lemmas.Bool.{cases_eq}
 use Rattle.std.proofs.lemmas.List.{take_more, take_all}
-use Rattle.pc_word.proofs.Lists.{all_front, all_back, all_imply}
+use Rattle.pc_word.proofs.Lists.{all_front, all_back}
 use Rattle.pc_word.specs.declared.item.Operand.{Operand}
 use Rattle.pc_word.specs.declared.item.Operand.TheVariants.{Name, Lit}
 use Rattle.pc_copies.specs.declared.moves.Move.{Move}
-use Rattle.pc_copies.specs.Moves.{IsCopy, Leads_to}
+use Rattle.pc_copies.specs.Moves.{Leads_to}
 use Rattle.pc_copies.specs.models.Sources.{taken, moved, source_in, first_of, over, IsRead, Unread, IsWritten, Apart, back, Do}
-use Rattle.pc_copies.specs.models.Packing.{Puts, Fills, Fits, Adds, AddsRing, RowsFit, WritesOnce, Avoids, Unwinds, IsRing, IsClean, Unwound}
+use Rattle.pc_copies.specs.models.Packing.{Puts, Fills, Fits, Adds, AddsRing, AreNamed, RowsFit, WritesOnce, Avoids, Unwinds, IsRing, IsClean, Unwound}
 use Rattle.pc_copies.proofs.Rows.{source_both, row_more, reads_both, put_done, put_does, put_reads, put_writes, put_fits, put_adds}
 use Rattle.pc_copies.proofs.Singles.{one_unwritten, head_written, tail_written, unwritten, one_read, one_written}
 use Rattle.pc_copies.proofs.Unwinding.{clean_none, leads_unwind}
@@ -83,10 +83,10 @@ adds_ring ops scratch sources rows first later now adds = record {
 }
 
 pub put_ring : (scratch ops : ℕ) (ring : List Move) (rows : List (List Move)) (first : List Move) (later : List (List Move)) (now : List Move) → Puts ops ring rows first later now
-    → AllByRecursion (Avoids scratch) ring → WritesOnce ring → AddsRing ops scratch (source_in ring) rows first later now
-put_ring scratch ops ring rows first later now puts avoids once =
+    → WritesOnce ring → AddsRing ops scratch (source_in ring) rows first later now
+put_ring scratch ops ring rows first later now puts once =
     adds_ring ops scratch (source_in ring) rows first later now
-    (put_adds scratch ops ring rows first later now puts (all_imply (Avoids scratch) (IsCopy scratch) ring (λ move h. h.copy) avoids) once)
+    (put_adds scratch ops ring rows first later now puts once)
 
 -- ---- a cycle that is broken
 
@@ -113,7 +113,7 @@ module _ (scratch ops : ℕ) (init : List Move) (last head : Move) (rows : List 
     (late : List (List Move)) (second : List Move) (later : List (List Move)) (now : List Move) (out : Puts ops (from_scratch scratch last ∷ []) rows first mid row)
     (unwound : Unwound ops scratch init mid row late second) (into : Puts ops (to_scratch scratch head ∷ []) late second later now)
     (closes : last.from ≡ Name head.dest) (once : source_in init last.dest ≡ None) (clean : IsClean scratch init) (apart : last.dest ≢ scratch)
-    (tidy : IsClean scratch second) (last_copy : IsCopy scratch last) (head_copy : IsCopy scratch head) where
+    (tidy : IsClean scratch second) (tail : List Move) (begins : init ++ last ∷ [] ≡ head ∷ tail) where
   abbrev ring : List Move
   ring = init ++ last ∷ []
 
@@ -256,10 +256,22 @@ module _ (scratch ops : ℕ) (init : List Move) (last head : Move) (rows : List 
     apart = λ register h. one_unwritten (to_scratch scratch head) register (λ e. let none = sym (ap (source_in second) e) ∙ tidy.unwritten in let writes = h.writes in absurd (cc));
   }
 
-  ring_fits : Apart (source_in first) (source_in ring) → RowsFit ops scratch rows first → RowsFit ops scratch later now
-  ring_fits free fit =
-      let begun = put_fits ops scratch leaves rows first mid row out (record { dest = last_copy.dest; from = inr refl }, tt) (refl, tt) (leaves_apart free) fit in
-      put_fits ops scratch enters late second later now into (record { dest = inr refl; from = head_copy.dest }, tt) (refl, tt) enters_apart (unwound.adds.fits (init_apart free) begun)
+  init_source : (register : ℕ) (from : Operand) → source_in init register ≡ Some from → source_in ring register ≡ Some from
+  init_source register from e = source_both init (last ∷ []) register ∙ ap (λ o. first_of o (source_in (last ∷ []) register)) e
+
+  ring_fits : (named : ℕ → Bool) → AreNamed named (source_in ring) → Apart (source_in first) (source_in ring) → RowsFit named ops scratch rows first
+      → RowsFit named ops scratch later now
+  ring_fits named are free fit =
+      let last_named : named last.dest ≡ true = are.dests last.dest last.from (source_both init (last ∷ []) last.dest
+      ∙ ap (λ o. first_of o (source_in (last ∷ []) last.dest)) once ∙ head_written last []) in
+      let head_named : named head.dest ≡ true = are.dests head.dest head.from (ap (λ (l : List Move). source_in l head.dest) begins ∙ head_written head tail) in
+      let inner : AreNamed named (source_in init) = record {
+        dests = λ register from e. are.dests register from (init_source register from e);
+        reads = λ register read e. are.reads register read (init_source register (Name read) e);
+      } in
+      let begun = put_fits named ops scratch leaves rows first mid row out (record { dest = inl last_named; from = inr refl }, tt) (refl, tt) (leaves_apart free) fit in
+      put_fits named ops scratch enters late second later now into (record { dest = inr refl; from = inl head_named }, tt) (refl, tt) enters_apart
+      (unwound.adds.fits named inner (init_apart free) begun)
 
   init_written : (register : ℕ) → IsWritten (source_in init) register → IsWritten (source_in ring) register
   init_written register h = record { from = h.from; writes = source_both init (last ∷ []) register ∙ ap (λ o. first_of o (source_in (last ∷ []) register)) h.writes }
@@ -348,6 +360,5 @@ break_adds scratch ops ring default other rows first mid row late second later n
     let enters = subst (λ (m : Move). Puts ops (to_scratch scratch m ∷ []) late second later now) (ends.first other) into in
     let broken = ring_broken scratch ops init last ends.head rows first mid row late second later now out unwound enters ends.closes ends.once
     (all_clean scratch init (all_front (Avoids scratch) init (last ∷ []) all))
-    (all_back (Avoids scratch) init (last ∷ []) all).0.writes tidy (all_back (Avoids scratch) init (last ∷ []) all).0.copy
-    (subst (AllByRecursion (Avoids scratch)) ends.begins avoids).0.copy in
+    (all_back (Avoids scratch) init (last ∷ []) all).0.writes tidy ends.tail (ends.split ∙ ends.begins) in
     subst (λ (l : List Move). AddsRing ops scratch (source_in l) rows first later now) ends.split broken

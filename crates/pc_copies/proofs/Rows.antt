@@ -7,10 +7,10 @@ use Rattle.pc_word.proofs.Lists.{all_both}
 use Rattle.pc_word.specs.declared.item.Operand.{Operand}
 use Rattle.pc_word.specs.declared.item.Operand.TheVariants.{Name, Lit}
 use Rattle.pc_copies.specs.declared.moves.Move.{Move}
-use Rattle.pc_copies.specs.Moves.{IsCopy}
+use Rattle.pc_copies.specs.Moves.{IsReadable, IsCopy}
 use Rattle.pc_copies.specs.models.Sources.{taken, moved, source_in, first_of, over, IsRead, Unread, IsWritten, Apart, back, Do}
-use Rattle.pc_copies.specs.models.Packing.{Puts, Fills, Fits, WritesOnce, IsFull, RowsFit, Adds}
-use Rattle.pc_copies.proofs.Singles.{head_written, tail_is_written}
+use Rattle.pc_copies.specs.models.Packing.{Puts, Fills, Fits, WritesOnce, IsFull, RowsFit, AreNamed, Adds}
+use Rattle.pc_copies.proofs.Singles.{head_written, tail_written, tail_is_written}
 
 -- ---- sources
 
@@ -122,32 +122,60 @@ put_writes ops group rows first later now (Fills full is now_is) register h =
     let none = subst (λ (l : List Move). IsWritten (source_in l) register) now_is h in let e = none.writes in absurd (cc)
 put_writes ops group rows first later now (Fits room is now_is) register h = writes_both first group register (subst (λ (l : List Move). IsWritten (source_in l) register) now_is h)
 
-pub put_fits : (ops scratch : ℕ) (group : List Move) (rows : List (List Move)) (first : List Move) (later : List (List Move)) (now : List Move) → Puts ops group rows first later now
-    → AllByRecursion (IsCopy scratch) group → WritesOnce group → Apart (source_in first) (source_in group) → RowsFit ops scratch rows first → RowsFit ops scratch later now
-put_fits ops scratch group rows first later now (Fills full is now_is) copies once apart fit =
-    let row : IsFull ops scratch (first ++ group) = record {
+-- moves that name such registers alone are such copies
+readable : (named : ℕ → Bool) (scratch : ℕ) (from : Operand) → ((register : ℕ) → from ≡ Name register → named register ≡ true) → IsReadable named scratch from
+readable named scratch (Name register) h = inl (h register refl)
+readable named scratch (Lit value) h = tt
+
+pub head_copy : (named : ℕ → Bool) (scratch : ℕ) (move : Move) (moves : List Move) → AreNamed named (source_in (move ∷ moves)) → IsCopy named scratch move
+head_copy named scratch move moves are = record {
+  dest = inl (are.dests move.dest move.from (head_written move moves));
+  from = readable named scratch move.from (λ register e. are.reads move.dest register (head_written move moves ∙ ap (λ (o : Operand). Some o) e));
+}
+
+pub tail_named : (named : ℕ → Bool) (move : Move) (moves : List Move) → source_in moves move.dest ≡ None → AreNamed named (source_in (move ∷ moves))
+    → AreNamed named (source_in moves)
+tail_named named move moves once are = record {
+  dests = λ register from e. are.dests register from (there register from e);
+  reads = λ register read e. are.reads register read (there register (Name read) e);
+}
+  where
+    there : (register : ℕ) (from : Operand) → source_in moves register ≡ Some from → source_in (move ∷ moves) register ≡ Some from
+    there register from e = tail_written move moves register (λ same. let none = sym (ap (source_in moves) same) ∙ once in absurd (cc)) ∙ e
+
+pub named_copies : (named : ℕ → Bool) (scratch : ℕ) (moves : List Move) → WritesOnce moves → AreNamed named (source_in moves) → AllByRecursion (IsCopy named scratch) moves
+named_copies named scratch [] once are = tt
+named_copies named scratch (move ∷ moves) once are =
+    (head_copy named scratch move moves are, named_copies named scratch moves once.1 (tail_named named move moves once.0 are))
+
+pub put_fits : (named : ℕ → Bool) (ops scratch : ℕ) (group : List Move) (rows : List (List Move)) (first : List Move) (later : List (List Move)) (now : List Move)
+    → Puts ops group rows first later now
+    → AllByRecursion (IsCopy named scratch) group → WritesOnce group → Apart (source_in first) (source_in group) → RowsFit named ops scratch rows first
+    → RowsFit named ops scratch later now
+put_fits named ops scratch group rows first later now (Fills full is now_is) copies once apart fit =
+    let row : IsFull named ops scratch (first ++ group) = record {
       many = length-append first group ∙ full;
-      copies = all_both (IsCopy scratch) first group fit.copies copies;
+      copies = all_both (IsCopy named scratch) first group fit.copies copies;
       once = once_join first group fit.once once apart;
     } in
     record {
-      full = subst (AllByRecursion (IsFull ops scratch)) (sym is) (all_both (IsFull ops scratch) rows ((first ++ group) ∷ []) fit.full (row, tt));
-      copies = subst (AllByRecursion (IsCopy scratch)) (sym now_is) tt;
+      full = subst (AllByRecursion (IsFull named ops scratch)) (sym is) (all_both (IsFull named ops scratch) rows ((first ++ group) ∷ []) fit.full (row, tt));
+      copies = subst (AllByRecursion (IsCopy named scratch)) (sym now_is) tt;
       once = subst WritesOnce (sym now_is) tt;
     }
-put_fits ops scratch group rows first later now (Fits room is now_is) copies once apart fit = record {
-  full = subst (AllByRecursion (IsFull ops scratch)) (sym is) fit.full;
-  copies = subst (AllByRecursion (IsCopy scratch)) (sym now_is) (all_both (IsCopy scratch) first group fit.copies copies);
+put_fits named ops scratch group rows first later now (Fits room is now_is) copies once apart fit = record {
+  full = subst (AllByRecursion (IsFull named ops scratch)) (sym is) fit.full;
+  copies = subst (AllByRecursion (IsCopy named scratch)) (sym now_is) (all_both (IsCopy named scratch) first group fit.copies copies);
   once = subst WritesOnce (sym now_is) (once_join first group fit.once once apart);
 }
 
 -- what is put is added
 pub put_adds : (scratch ops : ℕ) (group : List Move) (rows : List (List Move)) (first : List Move) (later : List (List Move)) (now : List Move) → Puts ops group rows first later now
-    → AllByRecursion (IsCopy scratch) group → WritesOnce group → Adds ops scratch (source_in group) rows first later now
-put_adds scratch ops group rows first later now puts copies once = record {
+    → WritesOnce group → Adds ops scratch (source_in group) rows first later now
+put_adds scratch ops group rows first later now puts once = record {
   does = put_does scratch ops group rows first later now puts;
   reads = put_reads ops group rows first later now puts;
-  fits = put_fits ops scratch group rows first later now puts copies once;
+  fits = λ named are. put_fits named ops scratch group rows first later now puts (named_copies named scratch group once are) once;
   writes = put_writes ops group rows first later now puts;
 }
 

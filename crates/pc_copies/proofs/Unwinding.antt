@@ -11,10 +11,10 @@ use Rattle.pc_word.specs.declared.item.Operand.TheVariants.{Name}
 use Rattle.pc_copies.specs.declared.moves.Move.{Move}
 use Rattle.pc_copies.specs.Moves.{Leads_to}
 use Rattle.pc_copies.specs.models.Sources.{source_in, first_of, over, IsRead, Unread, IsWritten, Apart, Do}
-use Rattle.pc_copies.specs.models.Packing.{Puts, Fills, Fits, WritesOnce, Avoids, Unwinds, RowsFit, IsClean, Unwound}
+use Rattle.pc_copies.specs.models.Packing.{Puts, Fills, Fits, WritesOnce, Avoids, Unwinds, RowsFit, AreNamed, IsClean, Unwound}
 use Rattle.pc_copies.proofs.Singles.{one_unwritten, head_written, unwritten, one_read, head_read, tail_read, tail_is_written, one_written}
 use Rattle.pc_copies.proofs.Copies.{put_counts}
-use Rattle.pc_copies.proofs.Rows.{source_both, reads_both, do_same, put_does, put_reads, put_writes, put_fits}
+use Rattle.pc_copies.proofs.Rows.{source_both, reads_both, do_same, put_does, put_reads, put_writes, head_copy, tail_named, put_fits}
 
 -- ---- clean rows
 
@@ -97,10 +97,12 @@ module _ (scratch ops : ℕ) (move : Move) (moves : List Move) (rows : List (Lis
     ];
   }
 
-  more_fits : Apart (source_in first) (source_in (move ∷ moves)) → RowsFit ops scratch rows first → RowsFit ops scratch later now
-  more_fits apart fit =
+  more_fits : (named : ℕ → Bool) → AreNamed named (source_in (move ∷ moves)) → Apart (source_in first) (source_in (move ∷ moves)) → RowsFit named ops scratch rows first
+      → RowsFit named ops scratch later now
+  more_fits named are apart fit =
       let rest : Apart (source_in first) (source_in moves) = record { apart = λ register h. (unwritten move moves register (apart.apart register h)).tail } in
-      put_fits ops scratch (move ∷ []) mid row later now puts (avoids.copy, tt) (refl, tt) (row_apart apart) (before.adds.fits rest fit)
+      put_fits named ops scratch (move ∷ []) mid row later now puts (head_copy named scratch move moves are, tt) (refl, tt) (row_apart apart)
+      (before.adds.fits named (tail_named named move moves unwinds.0 are) rest fit)
 
   more_writes : (register : ℕ) → IsWritten (source_in now) register → IsWritten (source_in first) register ⊎ IsWritten (source_in (move ∷ moves)) register
   more_writes register h = elim (put_writes ops (move ∷ []) mid row later now puts register h) [
@@ -160,7 +162,7 @@ unwound_none ops scratch rows first = record {
   adds = record {
     does = λ placed done apart unread. do_same scratch rows first placed (over placed (source_in [])) (λ x other. kept (placed x)) done;
     reads = λ register h. inl h;
-    fits = λ apart fit. fit;
+    fits = λ named are apart fit. fit;
     writes = λ register h. inl h;
   };
   grows = inl (omega arith);

@@ -1,12 +1,12 @@
 -- Moves between registers that are done at once, and rows of copies that do them.
-use Rattle.std.specs.Prelude.{◌≡◌, ◌≢◌, ◌⊎◌, ◌<◌, ◌≤◌, ◌+◌, ◌++◌, ℕ, Bool, false}
+use Rattle.std.specs.Prelude.{◌≡◌, ◌≢◌, ◌⊎◌, ◌<◌, ◌≤◌, ◌+◌, ◌++◌, ℕ, Bool, true, false, ◌||◌}
 use Rattle.std.specs.Prelude.{if◌then◌else◌, nat_eq, List, [], ◌∷◌, length, map, drop, Some, slice_get}
-use Rattle.std.specs.List.{AllByRecursion, filter_map, IsDistinct}
+use Rattle.std.specs.List.{AllByRecursion, filter_map, IsDistinct, list_any}
 use Rattle.pc_word.specs.declared.item.Item.{Item}
 use Rattle.pc_word.specs.declared.item.Item.TheVariants.{Copy}
 use Rattle.pc_word.specs.declared.item.Operand.{Operand}
 use Rattle.pc_word.specs.declared.item.Operand.TheVariants.{Name, Lit}
-use Rattle.pc_word.specs.MachineLimits.{registers}
+use Rattle.pc_machine.specs.Registers.{most_registers}
 use Rattle.pc_word.specs.State.{State}
 use Rattle.pc_word.specs.Items.{operand_value, dest_of}
 use Rattle.pc_word.specs.Commit.{state_after}
@@ -16,7 +16,7 @@ use Rattle.pc_copies.specs.declared.moves.Move.{Move}
 
 -- a register that moves may name: one of the machine, but not scratch
 pub record IsNamed (scratch register : ℕ) : Type 0 where
-  pub below : register < registers
+  pub below : register < most_registers
   pub other : register ≢ scratch
 
 -- an operand that a move may read
@@ -66,23 +66,27 @@ after_rows lengths (row ∷ rows) old = after_rows lengths rows (after_copies le
 
 -- ---- the whole
 
--- a register of the machine, or scratch
-abbrev pub IsRegister : ℕ → ℕ → Type 0
-IsRegister scratch register = (register < registers) ⊎ (register ≡ scratch)
+-- whether one of some moves names a register
+abbrev pub one_names : List Move → ℕ → Bool
+one_names moves register = list_any (λ move. nat_eq move.dest register || is_name move.from register) moves
+
+-- a register that copies may name: one that is named by what they do, or scratch
+abbrev pub IsRegister : (ℕ → Bool) → ℕ → ℕ → Type 0
+IsRegister named scratch register = (named register ≡ true) ⊎ (register ≡ scratch)
 
 -- an operand that a copy may read
-abbrev pub IsReadable : ℕ → Operand → Type 0
-IsReadable scratch (Name register) = IsRegister scratch register
-IsReadable scratch (Lit value) = Unit {0}
+abbrev pub IsReadable : (ℕ → Bool) → ℕ → Operand → Type 0
+IsReadable named scratch (Name register) = IsRegister named scratch register
+IsReadable named scratch (Lit value) = Unit {0}
 
 -- a copy that names such registers alone
-pub record IsCopy (scratch : ℕ) (copy : Move) : Type 0 where
-  pub dest : IsRegister scratch copy.dest
-  pub from : IsReadable scratch copy.from
+pub record IsCopy (named : ℕ → Bool) (scratch : ℕ) (copy : Move) : Type 0 where
+  pub dest : IsRegister named scratch copy.dest
+  pub from : IsReadable named scratch copy.from
 
 -- a row of at least one and at most so many copies, no two to one register
-pub record IsCopyRow (ops scratch : ℕ) (row : List Move) : Type 0 where
-  pub copies : AllByRecursion (IsCopy scratch) row
+pub record IsCopyRow (named : ℕ → Bool) (ops scratch : ℕ) (row : List Move) : Type 0 where
+  pub copies : AllByRecursion (IsCopy named scratch) row
   pub some : 1 ≤ length row
   pub few : length row ≤ ops
   pub once : IsDistinct nat_eq (filter_map dest_of (map copy_of row))
@@ -125,10 +129,11 @@ pub record AreCopies (moves : List Move) (copies : ℕ) : Type 0 where
   pub apart : IsDistinct nat_eq (filter_map dest_of (map copy_of (moves_of cycles)))
   pub number : copies ≡ length moves + length cycles
 
--- rows of copies that do moves at once: each but the first is full, and one row is enough where it has room for all moves
+-- Rows of copies that do moves at once: each but the first is full, one row is enough where it has room for all moves, and
+-- no register is named but scratch and those that the moves name.
 pub record IsArranged (moves : List Move) (ops scratch : ℕ) (rows : List (List Move)) : Type 0 where
   pub done : (lengths : List ℕ) (old : State) → AreDone moves scratch old (after_rows lengths rows old)
-  pub rows_fit : AllByRecursion (IsCopyRow ops scratch) rows
+  pub rows_fit : AllByRecursion (IsCopyRow (one_names (nontrivial_moves moves)) ops scratch) rows
   pub full : AllByRecursion (IsFullRow ops) (drop 1 rows)
   pub copies : AreCopies (nontrivial_moves moves) (copies_in rows)
   pub one : length (nontrivial_moves moves) ≤ ops → length rows ≤ 1

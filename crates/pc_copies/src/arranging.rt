@@ -1,7 +1,7 @@
 //! Moves that are done at once, as rows of copies.
 ghost use Rattle.std.specs.Prelude.{◌≡◌, ◌<◌, ◌≤◌, [], None, length, replicate, IfOk, OnOk};
 ghost use Rattle.std.specs.List.{AllByRecursion};
-ghost use Rattle.pc_word.specs.MachineLimits.{registers};
+ghost use Rattle.pc_machine.specs.Registers.{most_registers};
 ghost use Rattle.pc_copies.specs.Moves.{AreMoves, nontrivial_moves, is_name, IsArranged};
 ghost use Rattle.pc_copies.specs.models.Packing.{WritesOnce};
 ghost use Rattle.pc_copies.specs.models.Arranging.{IsInside, AreApart, IsTable, IsPacked, if_any};
@@ -11,7 +11,8 @@ use crate::follow::follow;
 use crate::moves::{CopyRow, CopyRows, Move};
 use crate::packing::Packing;
 use crate::place::place;
-use pc_word::{Operand, REGISTERS, Seq};
+use pc_machine::MOST_REGISTERS;
+use pc_word::{Operand, Seq};
 use std::alloc::{AllocError, Global};
 
 /// Rows of at most `ops` copies that do moves at once when they run one after the other; moves to
@@ -25,7 +26,7 @@ use std::alloc::{AllocError, Global};
 ///
 /// `Memory` is the only error.
 #[tactic(auto, using(crate::proofs::Arranged::arranged_laws))]
-pub fn arrange(alloc: Global, moves: &[Move], ops: u8, scratch: u32) -> Result<CopyRows, CopyError>
+pub fn arrange(alloc: Global, moves: &[Move], ops: u8, scratch: u8) -> Result<CopyRows, CopyError>
     requires moves { AreMoves scratch moves.now }
     requires ops { 1 ≤ ops }
     ensures { IfOk result (λ rows. IsArranged moves.now ops scratch rows) }
@@ -35,7 +36,7 @@ pub fn arrange(alloc: Global, moves: &[Move], ops: u8, scratch: u32) -> Result<C
     if kept.len() <= ops {
         return Ok(one_row(alloc, kept)?);
     }
-    let packing = pack(alloc, kept.as_slice(), ops, scratch)?;
+    let packing = pack(alloc, kept.as_slice(), ops, u32::from(scratch))?;
     Ok(packing.in_order()?)
 }
 
@@ -79,7 +80,7 @@ fn pack(alloc: Global, moves: &[Move], ops: usize, scratch: u32) -> Result<Packi
     requires ops { 0 < ops }
     ensures { IfOk result (λ packing. IsPacked ops scratch moves.now packing.rows packing.first) }
 {
-    let mut sources = [None; REGISTERS];
+    let mut sources = [None; MOST_REGISTERS];
     fill(&mut sources, moves);
     let mut packing = Packing::new(alloc, ops, scratch);
     pack_all(alloc, moves, &mut sources, &mut packing)?;
@@ -108,7 +109,7 @@ fn pack_all(
 
 /// Puts the source of each move into a table that has none.
 fn fill(table: &mut [Option<Operand>], moves: &[Move])
-    requires table { table.old ≡ replicate registers None }
+    requires table { table.old ≡ replicate most_registers None }
     requires moves { AllByRecursion IsInside moves.now }
     requires once { WritesOnce moves.now }
     ensures { IsTable moves.now table.new }

@@ -1,6 +1,6 @@
 //! Moves that follow one another: each reads what the next one writes.
 ghost use Rattle.std.specs.Prelude.{◌≡◌, ◌<◌, ◌+◌, length, IfOk, OnOk};
-ghost use Rattle.pc_word.specs.MachineLimits.{registers};
+ghost use Rattle.pc_machine.specs.Registers.{most_registers};
 ghost use Rattle.pc_copies.specs.models.Following.{AreSources, sources_left, Followed};
 
 use crate::moves::{CopyRow, Move};
@@ -15,7 +15,7 @@ pub(crate) fn follow(
     first: u32,
 ) -> Result<CopyRow, AllocError>
     requires table { AreSources sources.old }
-    requires first { first < registers }
+    requires first { first < most_registers }
     ensures table { OnOk result (AreSources sources.new) }
     ensures counted { IfOk result (λ path. sources_left sources.new + length path ≡ sources_left sources.old) }
     ensures followed { IfOk result (λ path. Followed sources.old sources.new first path) }

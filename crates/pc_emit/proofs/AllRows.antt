@@ -14,11 +14,11 @@ use Rattle.pc_automaton.specs.Automaton.{AutomatonState, IsStateAmong, LeafLeads
 use Rattle.pc_automaton.specs.There.{StateIsThere}
 use Rattle.pc_automaton.specs.Reachable.{EachIsReachable}
 use Rattle.pc_automaton.specs.RowFits.{RowFits}
+use Rattle.pc_assign.specs.Assigned.{Registers}
 use Rattle.pc_copies.specs.declared.moves.Move.{Move}
 use Rattle.pc_machine.specs.declared.tree.Leaf.{Leaf}
 use Rattle.pc_machine.specs.declared.tree.Leaf.TheVariants.{Stop}
 use Rattle.pc_machine.specs.MachineCode.{CodeRow}
-use Rattle.pc_machine.specs.Registers.{few_registers}
 use Rattle.pc_machine.specs.WellFormed.{IsLeaf, IsRow}
 use Rattle.pc_machine.specs.Reachable.{IsReachable, Entry}
 use Rattle.pc_emit.specs.Registers.{register_of}
@@ -26,7 +26,7 @@ use Rattle.pc_emit.specs.Emitted.{RegionForm, Plain, ByAutomaton, LeadsToRegion,
 use Rattle.pc_emit.specs.Emitted.{LeafStands, StateStands, leads_to_state, leads_to_region, ends_here, traps_here}
 use Rattle.pc_emit.specs.Emitted.{LeadsBehind, to_item, to_test, to_region, to_end, to_trap, TreeStands, item_row, test_row, no_row, no_end_row, no_trap_row}
 use Rattle.pc_emit.specs.Emitted.{root_leaf, form_leaf, BeginsAt, by_leaf_alone, IsEmitted}
-use Rattle.pc_emit.specs.Emitting.{CanHave, CanPack}
+use Rattle.pc_emit.specs.Emitting.{AreEnough, CanHave, CanPack}
 use Rattle.pc_emit.specs.declared.plan.Plan.{Plan}
 use Rattle.pc_emit.specs.models.Layout.{rows_in, leaf_alone, front_rows, table_in, forms_at, emission_in, rows_end, IsPlan}
 use Rattle.pc_emit.proofs.Entries.{region_target}
@@ -96,7 +96,7 @@ module _ (plan : Plan) (is : IsPlan plan) (rows : List CodeRow) (emitted : IsEmi
 
   -- ---- reached
 
-  led_to : (region : ℕ) (states : List AutomatonState) (registers : ℕ → ℕ → Option ℕ) → forms_at plan region ≡ Some (ByAutomaton states registers) → EachIsReachable states
+  led_to : (region : ℕ) (states : List AutomatonState) (registers : Registers) → forms_at plan region ≡ Some (ByAutomaton states registers) → EachIsReachable states
   led_to region states registers has =
       let can : CanHave (table_in plan) plan.limits (forms_at plan) (region_tree (table_in plan) region) (ByAutomaton states registers) = is.forms.each region (ByAutomaton states registers) has in
       can.led
@@ -118,14 +118,14 @@ module _ (plan : Plan) (is : IsPlan plan) (rows : List CodeRow) (emitted : IsEmi
 
   -- ---- within limits
 
-  -- a row that keeps the limits, if there is one
-  abbrev Fits : ℕ → Type 0
-  Fits number = (row : CodeRow) → slice_get rows number ≡ Some row → IsRow plan.limits few_registers (length plan.table.now.arrays) (length rows) row
+  -- a row that keeps the limits with so many registers, if there is one
+  abbrev Fits : ℕ → ℕ → Type 0
+  Fits many number = (row : CodeRow) → slice_get rows number ≡ Some row → IsRow plan.limits many (length plan.table.now.arrays) (length rows) row
 
-  row_fits : (number : ℕ) (made : CodeRow) → slice_get rows number ≡ Some made → IsRow plan.limits few_registers (length plan.table.now.arrays) (length rows) made → Fits number
-  row_fits number made there fits row also = subst (IsRow plan.limits few_registers (length plan.table.now.arrays) (length rows)) (one_row there also) fits
+  row_fits : (many number : ℕ) (made : CodeRow) → slice_get rows number ≡ Some made → IsRow plan.limits many (length plan.table.now.arrays) (length rows) made → Fits many number
+  row_fits many number made there fits row also = subst (IsRow plan.limits many (length plan.table.now.arrays) (length rows)) (one_row there also) fits
 
-  module _ (within : rows_end plan ≤ length rows) where
+  module _ (many : ℕ) (enough : AreEnough many (forms_at plan)) (within : rows_end plan ≤ length rows) where
     region_leaf_fits : (region : ℕ) (leaf : Leaf) → LeadsToRegion (emission_in plan) region leaf → IsLeaf (length rows) leaf
     region_leaf_fits region leaf leads = within_more (rows_end plan) (length rows) leaf within (region_target plan is region leaf leads).within
 
@@ -146,15 +146,16 @@ module _ (plan : Plan) (is : IsPlan plan) (rows : List CodeRow) (emitted : IsEmi
 
     -- this many rows from one on keep the limits
     abbrev AllFit : ℕ → ℕ → Type 0
-    AllFit row many = (number : ℕ) → row ≤ number → number < row + many → Fits number
+    AllFit row count = (number : ℕ) → row ≤ number → number < row + count → Fits many number
 
     tree_fits : {row : ℕ} {tree : TableTree} (regions : ℕ) → TreeStands (emission_in plan) rows row tree → TreeIsThere (length plan.table.now.arrays) regions tree → AllFit row (units tree)
     tree_fits regions (item_row {row} {origin} {item} {rest} {leaf} there leads more) its number low high = elim (decide_le (suc row) number) [
       | inl above ↦ tree_fits regions more its.1 number above (omega (arith, high))
       | inr at ↦
           let same : row ≡ number = omega (arith, low, at) in
-          subst Fits same
-          (row_fits row (Then item (At_leaf leaf)) there (item_row_fits plan.limits is.limits (length plan.table.now.arrays) (length rows) item leaf its.0 (behind_fits leads more)))
+          subst (Fits many) same
+          (row_fits many row (Then item (At_leaf leaf)) there
+          (item_row_fits many enough.variables plan.limits is.limits (length plan.table.now.arrays) (length rows) item leaf its.0 (behind_fits leads more)))
     ]
     tree_fits regions (test_row {row} {origin} {on} {on_yes} {on_no} {yes_leaf} {no_leaf} there leads leads_too more more_too) its number low high = elim (decide_le (suc row) number) [
       | inl above ↦ elim (decide_le (suc number) (suc row + units on_yes)) [
@@ -163,9 +164,9 @@ module _ (plan : Plan) (is : IsPlan plan) (rows : List CodeRow) (emitted : IsEmi
       ]
       | inr at ↦
           let same : row ≡ number = omega (arith, low, at) in
-          subst Fits same
-          (row_fits row (Either on (At_leaf yes_leaf) (At_leaf no_leaf)) there
-          (test_row_fits plan.limits is.limits (length plan.table.now.arrays) (length rows) on yes_leaf no_leaf its.0 (behind_fits leads more) (behind_fits leads_too more_too)))
+          subst (Fits many) same
+          (row_fits many row (Either on (At_leaf yes_leaf) (At_leaf no_leaf)) there
+          (test_row_fits many enough.variables plan.limits is.limits (length plan.table.now.arrays) (length rows) on yes_leaf no_leaf its.0 (behind_fits leads more) (behind_fits leads_too more_too)))
     ]
     tree_fits regions (no_row {row}) its number low high = absurd (omega (arith, low, high))
     tree_fits regions (no_end_row {row}) its number low high = absurd (omega (arith, low, high))
@@ -184,7 +185,7 @@ module _ (plan : Plan) (is : IsPlan plan) (rows : List CodeRow) (emitted : IsEmi
     passes_fit passes_none fits = fits
     passes_fit (passes_row {at} {copies} {more} {next} there rest) fits = slice_get_within rows at _ there
 
-    module _ (region : ℕ) (states : List AutomatonState) (registers : ℕ → ℕ → Option ℕ) (has : forms_at plan region ≡ Some (ByAutomaton states registers)) where
+    module _ (region : ℕ) (states : List AutomatonState) (registers : Registers) (has : forms_at plan region ≡ Some (ByAutomaton states registers)) where
       can : CanPack (table_in plan) plan.limits (forms_at plan) states registers
       can = can_pack (is.forms.each region (ByAutomaton states registers) has)
         where
@@ -192,12 +193,15 @@ module _ (plan : Plan) (is : IsPlan plan) (rows : List CodeRow) (emitted : IsEmi
               → CanPack (table_in plan) plan.limits (forms_at plan) states registers
           can_pack h = h
 
-      below : (number name : ℕ) → register_of (registers number) name < 127
-      below number name = found (registers number name) refl
+      below : (number name : ℕ) → register_of (registers.of number) name < many
+      below number name = found (registers.of number name) refl
         where
-          found : (it : Option ℕ) → registers number name ≡ it → or_zero it < 127
-          found None e = omega arith
-          found (Some register) e = can.below number name register e
+          found : (it : Option ℕ) → registers.of number name ≡ it → or_zero it < many
+          found None e = let room = enough.variables in omega (arith, room)
+          found (Some register) e =
+              let low = can.below number name register e in
+              let left = enough.left region states registers has in
+              omega (arith, low, left)
 
       stand : (number : ℕ) (state : AutomatonState) → slice_get states number ≡ Some state → StateStands (emission_in plan) rows region states registers number state
       stand = emitted.stands region (ByAutomaton states registers) has
@@ -220,28 +224,28 @@ module _ (plan : Plan) (is : IsPlan plan) (rows : List CodeRow) (emitted : IsEmi
           by_leaf ends_here leads = tt
           by_leaf traps_here leads = tt
 
-      packed_fits : (number : ℕ) (state : AutomatonState) → slice_get states number ≡ Some state → Fits (entry region + number)
+      packed_fits : (number : ℕ) (state : AutomatonState) → slice_get states number ≡ Some state → Fits many (entry region + number)
       packed_fits number state there =
           let stands = stand number state there in
-          let of = register_of (registers number) in
+          let of = register_of (registers.of number) in
           let among = all_at (IsStateAmong states) states number state can.automaton.each there in
-          row_fits (entry region + number) stands.row stands.there
-          (state_fits of (below number) plan.limits (table_in plan) (length rows) state.parameters state.row stands.row
+          row_fits many (entry region + number) stands.row stands.there
+          (state_fits of many (below number) plan.limits (table_in plan) (length rows) state.parameters state.row stands.row
           (with_leaves (LeafLeads states) among.lead stands.stands) (all_at (λ state. RowFits plan.limits state.row) states number state can.fit there)
-          (all_at (StateIsThere (table_in plan)) states number state can.there there).items (stays_undisturbed (registers number) state (can.apart number state there))
+          (all_at (StateIsThere (table_in plan)) states number state can.there there).items (stays_undisturbed registers.scratch (registers.of number) state (can.apart number state there))
           (leaf_fits of))
 
-      packed_all_fit : (number : ℕ) → entry region ≤ number → number < entry region + length states → Fits number
+      packed_all_fit : (number : ℕ) → entry region ≤ number → number < entry region + length states → Fits many number
       packed_all_fit number low high =
           let at = number - entry region in
           let state = there_is states at (omega (arith, low, high)) in
           let same : entry region + at ≡ number = omega (arith, low) in
-          subst Fits same (packed_fits at state.0 state.1)
+          subst (Fits many) same (packed_fits at state.0 state.1)
 
     -- ---- all
 
     -- the row in front is a leaf alone
-    front_fits : (number : ℕ) → number < entry 0 → Fits number
+    front_fits : (number : ℕ) → number < entry 0 → Fits many number
     front_fits number lt = by_form (forms_at plan 0) refl (let first = is.entries.first in omega (arith, lt, first))
       where
         alone : BeginsAt rows Stop → slice_get rows 0 ≡ Some (At_leaf Stop)
@@ -255,25 +259,25 @@ module _ (plan : Plan) (is : IsPlan plan) (rows : List CodeRow) (emitted : IsEmi
             one_form : {it : Option RegionForm} {form other : RegionForm} → it ≡ Some form → it ≡ Some other → form ≡ other
             one_form p q = cc
 
-        by_tree : (tree : TableTree) → region_tree (table_in plan) 0 ≡ tree → forms_at plan 0 ≡ Some Plain → number < length (leaf_alone tree) → Fits number
+        by_tree : (tree : TableTree) → region_tree (table_in plan) 0 ≡ tree → forms_at plan 0 ≡ Some Plain → number < length (leaf_alone tree) → Fits many number
         by_tree (Does origin item rest) t e lt = absurd (omega (arith, lt))
         by_tree (Asks origin on on_yes on_no) t e lt = absurd (omega (arith, lt))
         by_tree (Next region) t e lt = absurd (omega (arith, lt))
         by_tree Stops_here t e lt =
             let at : 0 ≡ number = omega (arith, lt) in
-            subst Fits at
-            (row_fits 0 (At_leaf Stop) (alone (subst (BeginsAt rows) (ends e t) emitted.begins))
-            (leaf_row_fits plan.limits is.limits (length plan.table.now.arrays) (length rows) Stop tt))
+            subst (Fits many) at
+            (row_fits many 0 (At_leaf Stop) (alone (subst (BeginsAt rows) (ends e t) emitted.begins))
+            (leaf_row_fits many enough.variables plan.limits is.limits (length plan.table.now.arrays) (length rows) Stop tt))
         by_tree (Traps_here kind line) t e lt = absurd (is.forms.traps 0 line kind t e)
 
-        by_form : (it : Option RegionForm) → forms_at plan 0 ≡ it → number < length (front_rows (region_tree (table_in plan) 0) it) → Fits number
+        by_form : (it : Option RegionForm) → forms_at plan 0 ≡ it → number < length (front_rows (region_tree (table_in plan) 0) it) → Fits many number
         by_form None e lt = absurd (omega (arith, lt))
         by_form (Some Plain) e lt = by_tree (region_tree (table_in plan) 0) refl e lt
         by_form (Some (ByAutomaton states registers)) e lt = absurd (omega (arith, lt))
 
-    pub all_fit : (number : ℕ) → number < rows_end plan → Fits number
-    all_fit = each_row Fits front_fits own
+    pub all_fit : (number : ℕ) → number < rows_end plan → Fits many number
+    all_fit = each_row (Fits many) front_fits own
       where
-        own : (region : ℕ) (form : RegionForm) → forms_at plan region ≡ Some form → (number : ℕ) → entry region ≤ number → number < entry region + count region form → Fits number
+        own : (region : ℕ) (form : RegionForm) → forms_at plan region ≡ Some form → (number : ℕ) → entry region ≤ number → number < entry region + count region form → Fits many number
         own region Plain has number low high = tree_fits (length (table_in plan).regions) (emitted.stands region Plain has) (tree_there region) number low high
         own region (ByAutomaton states registers) has number low high = packed_all_fit region states registers has number low high

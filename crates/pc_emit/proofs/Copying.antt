@@ -1,5 +1,5 @@
 -- Rows of copies keep the limits, and are not long.
-use Rattle.std.proofs.Common.{◌≡◌, inl, inr, ℕ, ◌+◌, ◌*◌, ◌<◌, ◌≤◌, List, [], ◌∷◌, length, map, refl, sym, ◌∙◌, ap, subst, arith}
+use Rattle.std.proofs.Common.{◌≡◌, inl, inr, ℕ, ◌+◌, ◌*◌, ◌<◌, ◌≤◌, Bool, true, List, [], ◌∷◌, length, map, refl, sym, ◌∙◌, ap, subst, arith}
 use Rattle.std.specs.List.{AllByRecursion, count_by}
 use Rattle.std.proofs.lemmas.List.{length-append, length-map}
 use Rattle.pc_word.specs.declared.item.Item.{Item}
@@ -9,9 +9,7 @@ use Rattle.pc_word.specs.declared.item.Limits.{Limits}
 use Rattle.pc_word.specs.Items.{is_effect, is_memory}
 use Rattle.pc_word.specs.Row.{items_of, tests_of, leaves_of, paths_of}
 use Rattle.pc_word.proofs.Lists.{count_more}
-use Rattle.pc_assign.specs.Pressure.{allowed}
 use Rattle.pc_machine.specs.declared.tree.Leaf.{Leaf}
-use Rattle.pc_machine.specs.Registers.{few_registers}
 use Rattle.pc_machine.specs.WellFormed.{IsOperand, IsItem, IsLeaf, IsPath, IsRow}
 use Rattle.pc_object.specs.ObjectText.{operand_text, item_text, leaf_text, row_text}
 use Rattle.pc_copies.specs.declared.moves.Move.{Move}
@@ -46,33 +44,35 @@ no_effect (copy ∷ copies) = let one = count_more is_effect (copy_of copy) (map
 
 -- ---- it keeps the limits
 
-register_fits : (register : ℕ) → IsRegister allowed register → register < 128
-register_fits register is = elim is [ inl below ↦ below | inr scratch ↦ omega (arith, scratch) ]
+-- where all registers that the moves name are below so many, and scratch is, those of the copies are
+module _ (registers : ℕ) (named : ℕ → Bool) (scratch : ℕ) (below : (register : ℕ) → named register ≡ true → register < registers) (left : scratch < registers) where
+  register_fits : (register : ℕ) → IsRegister named scratch register → register < registers
+  register_fits register is = elim is [ inl one ↦ below register one | inr same ↦ omega (arith, same, left) ]
 
-operand_fits : (operand : Operand) → IsReadable allowed operand → IsOperand few_registers operand
-operand_fits (Name register) is = register_fits register is
-operand_fits (Lit value) is = tt
+  operand_fits : (operand : Operand) → IsReadable named scratch operand → IsOperand registers operand
+  operand_fits (Name register) is = register_fits register is
+  operand_fits (Lit value) is = tt
 
-items_fit : (arrays : ℕ) (copies : List Move) → AllByRecursion (IsCopy allowed) copies → AllByRecursion (IsItem few_registers arrays) (map copy_of copies)
-items_fit arrays [] all = tt
-items_fit arrays (copy ∷ copies) all = ((register_fits copy.dest all.0.dest, operand_fits copy.from all.0.from), items_fit arrays copies all.1)
+  items_fit : (arrays : ℕ) (copies : List Move) → AllByRecursion (IsCopy named scratch) copies → AllByRecursion (IsItem registers arrays) (map copy_of copies)
+  items_fit arrays [] all = tt
+  items_fit arrays (copy ∷ copies) all = ((register_fits copy.dest all.0.dest, operand_fits copy.from all.0.from), items_fit arrays copies all.1)
 
-pub copies_fit : (limits : Limits) (arrays rows : ℕ) (copies : List Move) (leaf : Leaf) → IsCopyRow limits.ops allowed copies → IsLeaf rows leaf
-    → IsRow limits few_registers arrays rows (copy_row copies leaf)
-copies_fit limits arrays rows copies leaf row leads = record {
-  ops =
-      let few = row.few in
-      let many = length-map copies copy_of in
-      let are = ap (λ (l : List Item). length l) (copies_are copies leaf) in
-      omega (arith, few, many, are);
-  tests = let none = ap (λ (l : List Operand). length l) (no_tests copies leaf) in omega (arith, none);
-  mem = let none = ap (count_by is_memory) (copies_are copies leaf) ∙ no_memory copies in omega (arith, none);
-  items = subst (AllByRecursion (IsItem few_registers arrays)) (sym (copies_are copies leaf)) (items_fit arrays copies row.copies);
-  operands = subst (AllByRecursion (IsOperand few_registers)) (sym (no_tests copies leaf)) tt;
-  leaves = subst (AllByRecursion (IsLeaf rows)) (sym (one_leaf copies leaf)) (leads, tt);
-  paths = subst (AllByRecursion IsPath) (sym (one_path copies leaf))
-      (record { writes_once = row.once; one_effect = let none = no_effect copies in omega (arith, none) }, tt);
-}
+  pub copies_fit : (limits : Limits) (arrays rows : ℕ) (copies : List Move) (leaf : Leaf) → IsCopyRow named limits.ops scratch copies → IsLeaf rows leaf
+      → IsRow limits registers arrays rows (copy_row copies leaf)
+  copies_fit limits arrays rows copies leaf row leads = record {
+    ops =
+        let few = row.few in
+        let many = length-map copies copy_of in
+        let are = ap (λ (l : List Item). length l) (copies_are copies leaf) in
+        omega (arith, few, many, are);
+    tests = let none = ap (λ (l : List Operand). length l) (no_tests copies leaf) in omega (arith, none);
+    mem = let none = ap (count_by is_memory) (copies_are copies leaf) ∙ no_memory copies in omega (arith, none);
+    items = subst (AllByRecursion (IsItem registers arrays)) (sym (copies_are copies leaf)) (items_fit arrays copies row.copies);
+    operands = subst (AllByRecursion (IsOperand registers)) (sym (no_tests copies leaf)) tt;
+    leaves = subst (AllByRecursion (IsLeaf rows)) (sym (one_leaf copies leaf)) (leads, tt);
+    paths = subst (AllByRecursion IsPath) (sym (one_path copies leaf))
+        (record { writes_once = row.once; one_effect = let none = no_effect copies in omega (arith, none) }, tt);
+  }
 
 -- ---- it is short
 

@@ -15,14 +15,12 @@ use Rattle.pc_window.proofs.Paces.{answer_of_answer, NeverFaults-follows}
 use Rattle.pc_window.proofs.Uses.{nat_eq-tells}
 use Rattle.pc_automaton.specs.Automaton.{AutomatonState}
 use Rattle.pc_automaton.specs.AutomatonRun.{automaton_run}
+use Rattle.pc_assign.specs.Assigned.{Registers}
 use Rattle.pc_machine.specs.declared.tree.Leaf.{Leaf}
 use Rattle.pc_machine.specs.MachineCode.{CodeRow}
-use Rattle.pc_machine.specs.MachineRun.{Cycle, machine_step, machine_start}
-use Rattle.pc_machine.proofs.Data.{no_data-replicate}
-use Rattle.pc_machine.proofs.MachineRuns.{machine_start-no_data}
 use Rattle.pc_emit.specs.Emitted.{Emission, RegionForm, Plain, ByAutomaton, form_leaf, BeginsAt, at_first_row, by_leaf_alone, IsEmitted}
 use Rattle.pc_emit.specs.PackedForm.{IsPackedForm, IsRegionForm}
-use Rattle.pc_emit.specs.Laws.{code_with, EmittedRowsDoWhatTheirTableDoes}
+use Rattle.pc_emit.specs.Laws.{EmittedRowsDoWhatTheirTableDoes}
 use Rattle.pc_emit.proofs.Leading.{row_run, leaf_run, leaf_seen, row_seen, leaf_grows}
 use Rattle.pc_emit.proofs.PackedRuns.{code, ForthIn, BackAt, StandsAt, state_forth, state_back}
 use Rattle.pc_emit.proofs.PlainRuns.{roots, tree_forth, tree_back}
@@ -44,7 +42,7 @@ module _ (e : Emission) (keeps : TableKeeps e.table) (limits : Limits) (rows : L
   never_tree : (region : ℕ) (m : State) → NeverFaults (region_run e.table (Next region) m) → NeverFaults (region_run e.table (region_tree e.table region) m)
   never_tree region m never n fault is = never n fault (ap (λ (x : Seen). x.end) (sym (tree_same region m n)) ∙ is)
 
-  module _ (region : ℕ) (states : List AutomatonState) (registers : ℕ → ℕ → Option ℕ) (has : e.forms region ≡ Some (ByAutomaton states registers)) where
+  module _ (region : ℕ) (states : List AutomatonState) (registers : Registers) (has : e.forms region ≡ Some (ByAutomaton states registers)) where
     abbrev packed : IsPackedForm e.table region states registers
     packed = forms region (ByAutomaton states registers) has
 
@@ -53,7 +51,7 @@ module _ (e : Emission) (keeps : TableKeeps e.table) (limits : Limits) (rows : L
       state = packed.first;
       there = packed.is_first;
       holds = record {
-        names = λ x there. ap (λ (o : Option ℕ). m.names (or_zero o)) (all_in (λ v. registers 0 v ≡ Some v) packed.first.parameters x packed.variables there);
+        names = λ x there. ap (λ (o : Option ℕ). m.names (or_zero o)) (all_in (λ v. registers.of 0 v ≡ Some v) packed.first.parameters x packed.variables there);
         cells = refl;
         input = refl;
       };
@@ -143,16 +141,7 @@ module _ (e : Emission) (keeps : TableKeeps e.table) (limits : Limits) (rows : L
       one_behind (suc n) = subst (λ (x : Seen). Answers x (leaf_run (code e keeps limits rows) leaf m (suc n)) x.end) (sym (one_more n))
           (leaf_grows (code e keeps limits rows) leaf m n (suc n) (omega arith))
 
--- a code without data starts at its row 0, with 0 everywhere
-pub starts_at_zero : (limits : Limits) (e : Emission) (rows : List CodeRow) (input : List ℤ)
-    → ◌≡◌ {A = Cycle} (machine_start (code_with limits e rows) input) (record { row = 0; state = start_state input })
-starts_at_zero limits e rows input = machine_start-no_data (code_with limits e rows) input (no_data-replicate (length e.table.arrays))
-
 pub emitted_rows_do : EmittedRowsDoWhatTheirTableDoes
-emitted_rows_do e keeps limits rows emitted forms never input words =
-    subst (λ (c : Cycle). Agree (run_code_from c) (table_run e.table input)) (sym (starts_at_zero limits e rows input))
-    (begins_agree e keeps limits rows emitted forms emitted.first emitted.begins (start_state input)
-    (leaf_agrees e keeps limits rows emitted forms (start_state input) (never input words)))
-  where
-    run_code_from : Cycle → Run
-    run_code_from c n = run_from (machine_step (code_with limits e rows)) n c
+emitted_rows_do e keeps limits registers initial rows emitted forms never input words =
+    begins_agree e keeps limits rows emitted forms emitted.first emitted.begins (start_state initial input)
+    (leaf_agrees e keeps limits rows emitted forms (start_state initial input) (never input words))

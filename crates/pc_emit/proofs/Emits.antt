@@ -15,17 +15,17 @@ use Rattle.pc_table.specs.TableKeeps.{units}
 use Rattle.pc_automaton.specs.declared.automaton.AutomatonLeaf.{AutomatonLeaf}
 use Rattle.pc_automaton.specs.declared.automaton.AutomatonLeaf.TheVariants.{To, Out, Stop, Trap}
 use Rattle.pc_automaton.specs.Automaton.{AutomatonState}
+use Rattle.pc_assign.specs.Assigned.{Registers}
 use Rattle.pc_word.specs.declared.row_tree.RowTree.{RowTree}
 use Rattle.pc_machine.specs.declared.tree.Leaf.{Leaf}
 use Rattle.pc_machine.specs.declared.tree.Leaf.TheVariants as machine
 use Rattle.pc_machine.specs.MachineCode.{CodeRow, row_of, rows_of}
-use Rattle.pc_machine.specs.Registers.{few_registers}
 use Rattle.pc_machine.specs.WellFormed.{IsLeaf, IsRow}
 use Rattle.pc_machine.specs.Reachable.{IsReachable}
 use Rattle.pc_emit.specs.declared.form.RegionForm.{RegionForm as StoredForm}
 use Rattle.pc_emit.specs.Bytes.{tree_bytes, row_bytes, states_bytes, form_bytes, regions_bytes}
 use Rattle.pc_emit.specs.Emitted.{RegionForm, Plain, ByAutomaton, root_leaf, form_leaf, BeginsAt, at_first_row, by_leaf_alone, BeginsAtFirstRow, IsEmitted}
-use Rattle.pc_emit.specs.Emitting.{form_in, region_forms, CanHave, AreEmitted, AreForms}
+use Rattle.pc_emit.specs.Emitting.{form_in, region_forms, AreEnough, CanHave, AreEmitted, AreForms}
 use Rattle.pc_emit.specs.declared.output.Output.{Output}
 use Rattle.pc_emit.specs.declared.plan.Plan.{Plan}
 use Rattle.pc_emit.specs.models.Output.{bytes_of, Stays, OutputGrows, EachCopy}
@@ -362,10 +362,10 @@ module _ (plan : Plan) (is : IsPlan plan) (old new : Output) (rows : List CodeRo
   reached = by_part (λ number. IsReachable rows number) (all_reached plan is rows all_emitted)
       (λ at lt. (way at lt).reached (λ row low high. all_reached plan is rows all_emitted row (let many = so_far.count_is in omega (arith, high, many))))
 
-  fit : AllByRecursion (IsRow plan.limits few_registers (length plan.table.now.arrays) (length rows)) rows
-  fit = at_each (IsRow plan.limits few_registers (length plan.table.now.arrays) (length rows)) rows
-      (λ at row there. by_part (λ number. (row : CodeRow) → slice_get rows number ≡ Some row → IsRow plan.limits few_registers (length plan.table.now.arrays) (length rows) row)
-      (all_fit plan is rows all_emitted within) (λ at lt. (way at lt).fits within) at (slice_get_within rows at row there) row there)
+  fit : (count : ℕ) → AreEnough count (forms_at plan) → AllByRecursion (IsRow plan.limits count (length plan.table.now.arrays) (length rows)) rows
+  fit count enough = at_each (IsRow plan.limits count (length plan.table.now.arrays) (length rows)) rows
+      (λ at row there. by_part (λ number. (row : CodeRow) → slice_get rows number ≡ Some row → IsRow plan.limits count (length plan.table.now.arrays) (length rows) row)
+      (all_fit plan is rows all_emitted count enough within) (λ at lt. (way at lt).fits count enough within) at (slice_get_within rows at row there) row there)
     where
       within : rows_end plan ≤ length rows
       within = let many = rows_in_all in omega (arith, many)
@@ -424,14 +424,14 @@ regions_few plan is =
     let many = length-map plan.table.now.regions table_region in
     omega (arith, few, short, many)
   where
-    one : (tree : TableTree) (form : Option RegionForm) → ((states : List AutomatonState) (registers : ℕ → ℕ → Option ℕ) → form ≡ Some (ByAutomaton states registers) → 1 ≤ length states)
+    one : (tree : TableTree) (form : Option RegionForm) → ((states : List AutomatonState) (registers : Registers) → form ≡ Some (ByAutomaton states registers) → 1 ≤ length states)
         → 1 ≤ form_bytes tree form
     one tree None some = omega arith
     one tree (Some Plain) some = omega arith
     one tree (Some (ByAutomaton states registers)) some = let few = states_few states in let first = some states registers refl in omega (arith, few, first)
 
     each_some : (regions : List TableRegion) (number : ℕ)
-        → ((region : ℕ) (states : List AutomatonState) (registers : ℕ → ℕ → Option ℕ) → forms_at plan region ≡ Some (ByAutomaton states registers) → 1 ≤ length states)
+        → ((region : ℕ) (states : List AutomatonState) (registers : Registers) → forms_at plan region ≡ Some (ByAutomaton states registers) → 1 ≤ length states)
         → length regions ≤ regions_bytes (forms_at plan) number regions
     each_some [] number some = omega arith
     each_some (region ∷ regions) number some =

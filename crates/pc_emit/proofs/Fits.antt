@@ -19,7 +19,6 @@ use Rattle.pc_automaton.specs.declared.automaton.AutomatonLeaf.{AutomatonLeaf}
 use Rattle.pc_automaton.specs.RowFits.{RowFits}
 use Rattle.pc_machine.specs.declared.tree.Leaf.{Leaf}
 use Rattle.pc_machine.specs.MachineCode.{CodeRow}
-use Rattle.pc_machine.specs.Registers.{few_registers}
 use Rattle.pc_machine.specs.WellFormed.{IsOperand, IsItem, IsLeaf, IsPath, IsRow}
 use Rattle.pc_emit.specs.Emitted.{RowStands, item_stands, test_stands, leaf_stands}
 use Rattle.pc_emit.proofs.Undisturbed.{IsUndisturbed, StaysUndisturbed}
@@ -172,15 +171,15 @@ module _ (of : ℕ → ℕ) where
 
   -- ---- the row of a state
 
-  module _ (below : (name : ℕ) → of name < 127) where
-    operand_fits : (operand : Operand) → IsOperand few_registers (map_name of operand)
-    operand_fits (Name name) = let less = below name in omega (arith, less)
+  module _ (registers : ℕ) (below : (name : ℕ) → of name < registers) where
+    operand_fits : (operand : Operand) → IsOperand registers (map_name of operand)
+    operand_fits (Name name) = below name
     operand_fits (Lit value) = tt
 
-    dest_fits : (dest : ℕ) → of dest < 128
-    dest_fits dest = let less = below dest in omega (arith, less)
+    dest_fits : (dest : ℕ) → of dest < registers
+    dest_fits dest = below dest
 
-    item_fits : (table : Table) (item : Item) → ArrayIsThere table item → IsItem few_registers (length table.arrays) (moved item)
+    item_fits : (table : Table) (item : Item) → ArrayIsThere table item → IsItem registers (length table.arrays) (moved item)
     item_fits table (Bin op dest left right) there = (dest_fits dest, operand_fits left, operand_fits right)
     item_fits table (Copy dest from) there = (dest_fits dest, operand_fits from)
     item_fits table (Load dest array index) there = (dest_fits dest, there, operand_fits index)
@@ -189,14 +188,14 @@ module _ (of : ℕ → ℕ) where
     item_fits table (Read dest) there = dest_fits dest
     item_fits table (More dest) there = dest_fits dest
 
-    items_fit : (table : Table) (items : List Item) → AllByRecursion (ArrayIsThere table) items → AllByRecursion (IsItem few_registers (length table.arrays)) (map moved items)
+    items_fit : (table : Table) (items : List Item) → AllByRecursion (ArrayIsThere table) items → AllByRecursion (IsItem registers (length table.arrays)) (map moved items)
     items_fit table [] there = tt
     items_fit table (item ∷ items) there = (item_fits table item there.0, items_fit table items there.1)
 
     -- a row that stands keeps the limits that its row of names keeps
     pub state_fits : {Related : AutomatonLeaf → Leaf → Type 0} (limits : Limits) (table : Table) (rows : ℕ) (parameters : List ℕ) (row : Row AutomatonLeaf) (made : CodeRow)
         → RowStands Related of row made → RowFits limits row → AllByRecursion (ArrayIsThere table) (items_of row) → StaysUndisturbed of parameters [] row
-        → ((leaf : AutomatonLeaf) (below : Leaf) → Related leaf below → IsLeaf rows below) → IsRow limits few_registers (length table.arrays) rows made
+        → ((leaf : AutomatonLeaf) (below : Leaf) → Related leaf below → IsLeaf rows below) → IsRow limits registers (length table.arrays) rows made
     state_fits limits table rows parameters row made stands fits there apart leads =
         let same = items_same stands in record {
           ops =
@@ -210,8 +209,8 @@ module _ (of : ℕ → ℕ) where
               let kept = count_same is_memory memory_same (items_of row) in
               let few = fits.memory in
               omega (arith, many, kept, few);
-          items = subst (AllByRecursion (IsItem few_registers (length table.arrays))) (sym same) (items_fit table (items_of row) there);
-          operands = tests_in (IsOperand few_registers) operand_fits stands;
+          items = subst (AllByRecursion (IsItem registers (length table.arrays))) (sym same) (items_fit table (items_of row) there);
+          operands = tests_in (IsOperand registers) operand_fits stands;
           leaves = leaves_in (IsLeaf rows) leads stands;
           paths = subst (AllByRecursion IsPath) (sym (paths_same stands)) (paths_fit (paths_of row) (paths_write parameters [] row apart) fits.one_effect);
         }

@@ -21,17 +21,17 @@ use Rattle.pc_automaton.specs.Automaton.{AutomatonState, IsStateAmong, IsAutomat
 use Rattle.pc_automaton.specs.AutomatonRun.{At_state, passed_state, state_parameters, leaf_step, outcome_step, state_step, automaton_step}
 use Rattle.pc_machine.specs.declared.tree.Leaf.{Leaf}
 use Rattle.pc_machine.specs.declared.tree.Leaf.TheVariants as machine
-use Rattle.pc_machine.specs.MachineCode.{CodeRow, RowCode}
+use Rattle.pc_machine.specs.MachineCode.{CodeRow, RowCode, code_without_data}
 use Rattle.pc_machine.specs.MachineRun.{after_row, machine_step}
 use Rattle.pc_copies.specs.Moves.{after_rows, AreDone}
 use Rattle.pc_emit.specs.Registers.{register_of, argument_moves, home_moves}
 use Rattle.pc_assign.specs.Apart.{IsApart}
 use Rattle.pc_automaton.proofs.LeftRuns.{left_is_region}
 use Rattle.pc_emit.proofs.Undisturbing.{stays_undisturbed}
-use Rattle.pc_emit.specs.Laws.{code_with}
 use Rattle.pc_emit.specs.Emitted.{Emission, RegionForm, form_leaf, LeadsThroughMoves, LeafStands, leads_to_state, leads_to_region, ends_here, traps_here}
 use Rattle.pc_emit.specs.Emitted.{RowStands, item_stands, test_stands, leaf_stands, StateStands}
 use Rattle.pc_automaton.specs.There.{LeafIsThere, StateIsThere}
+use Rattle.pc_assign.specs.Assigned.{Registers}
 use Rattle.pc_emit.proofs.Rows.{LeafHolds, OutcomeStands, both_fault, both_commit, Holds, row_does}
 use Rattle.pc_emit.proofs.Passed.{state_passed, region_passed}
 use Rattle.pc_emit.proofs.Leading.{row_run, leaf_run, leaf_seen, row_seen, passes_forth, passes_back}
@@ -49,9 +49,10 @@ both : (P Q : AutomatonLeaf → Type 0) (leaves : List AutomatonLeaf) → AllByR
 both P Q [] h k = tt
 both P Q (leaf ∷ leaves) h k = ((h.0, k.0), both P Q leaves h.1 k.1)
 
+-- what a code does depends on its arrays and rows alone
 module _ (e : Emission) (keeps : TableKeeps e.table) (limits : Limits) (rows : List CodeRow) where
   abbrev pub code : RowCode
-  code = code_with limits e rows
+  code = code_without_data limits e.table.arrays rows
 
   abbrev pub table : Table
   table = e.table
@@ -66,8 +67,8 @@ module _ (e : Emission) (keeps : TableKeeps e.table) (limits : Limits) (rows : L
   BackAt n region = (form : RegionForm) → e.forms region ≡ Some form → (m : State) → NeverFaults (region_run table (Next region) m)
       → (k : ℕ) × Answers (region_run table (Next region) m n) (leaf_run code (form_leaf e region form) m k) (region_run table (Next region) m n).end
 
-  module _ (region : ℕ) (states : List AutomatonState) (registers : ℕ → ℕ → Option ℕ) (automaton : IsAutomaton states)
-      (apart : (number : ℕ) (state : AutomatonState) → slice_get states number ≡ Some state → IsApart (registers number) state)
+  module _ (region : ℕ) (states : List AutomatonState) (registers : Registers) (automaton : IsAutomaton states)
+      (apart : (number : ℕ) (state : AutomatonState) → slice_get states number ≡ Some state → IsApart registers.scratch (registers.of number) state)
       (are_there : AllByRecursion (StateIsThere table) states)
       (stand : (number : ℕ) (state : AutomatonState) → slice_get states number ≡ Some state → StateStands e rows region states registers number state) where
     -- the run from a state, and from a leaf
@@ -85,21 +86,21 @@ module _ (e : Emission) (keeps : TableKeeps e.table) (limits : Limits) (rows : L
     pub record StandsAt (number : ℕ) (s m : State) : Type 0 where
       pub state : AutomatonState
       pub there : slice_get states number ≡ Some state
-      pub holds : Holds (register_of (registers number)) state.parameters s m
+      pub holds : Holds (register_of (registers.of number)) state.parameters s m
 
     -- what one row of each does
     pub both_step : (number : ℕ) (s m : State) (at : StandsAt number s m)
         → (row : CodeRow) × (slice_get rows (e.places.state region number) ≡ Some row)
-        × OutcomeStands (Leads (register_of (registers number))) (register_of (registers number)) (row_step table.arrays at.state.row s) (row_step table.arrays row m)
+        × OutcomeStands (Leads (register_of (registers.of number))) (register_of (registers.of number)) (row_step table.arrays at.state.row s) (row_step table.arrays row m)
     both_step number s m at =
         let stands = stand number at.state at.there in
         let among : IsStateAmong states at.state = all_at (IsStateAmong states) states number at.state automaton.each at.there in
         let leaves = both (LeafLeads states) (LeafIsThere table) (leaves_of at.state.row) among.lead (all_at (StateIsThere table) states number at.state are_there at.there).leaves in (
           stands.row,
           stands.there,
-          row_does {Related = Leads (register_of (registers number))} table.arrays (register_of (registers number)) at.state.parameters s m
+          row_does {Related = Leads (register_of (registers.of number))} table.arrays (register_of (registers.of number)) at.state.parameters s m
               (with_leaves (λ leaf. LeafLeads states leaf × LeafIsThere table leaf) leaves stands.stands)
-              (stays_undisturbed (registers number) at.state (apart number at.state at.there)) among.items among.tests among.leaves at.holds,
+              (stays_undisturbed registers.scratch (registers.of number) at.state (apart number at.state at.there)) among.items among.tests among.leaves at.holds,
         )
 
     state_goes : (number : ℕ) (s : State) (state : AutomatonState) (n : ℕ) → slice_get states number ≡ Some state
@@ -111,28 +112,28 @@ module _ (e : Emission) (keeps : TableKeeps e.table) (limits : Limits) (rows : L
     -- the next state is there, and its parameters have their values after the copies
     pub next_stands : (of : ℕ → ℕ) (s m : State) (number : ℕ) (arguments : List Operand) (leaf : Leaf) → Takes (slice_get states number) (length arguments)
         → LeafHolds of (To number arguments) s m
-        → (moves : LeadsThroughMoves e rows leaf
-        (argument_moves of (register_of (registers number)) (state_parameters (slice_get states number)) arguments) (machine.Goto (e.places.state region number)))
+        → (moves : LeadsThroughMoves e registers.scratch rows leaf
+        (argument_moves of (register_of (registers.of number)) (state_parameters (slice_get states number)) arguments) (machine.Goto (e.places.state region number)))
         → StandsAt number (passed_state s (state_parameters (slice_get states number)) arguments) (after_rows table.arrays moves.copies m)
     next_stands of s m number arguments leaf takes holds moves = by_state (slice_get states number) refl takes (moves.arranged.done table.arrays m)
       where
         by_state : (o : Option AutomatonState) → slice_get states number ≡ o → Takes o (length arguments)
-            → AreDone (argument_moves of (register_of (registers number)) (state_parameters o) arguments) e.scratch m (after_rows table.arrays moves.copies m)
+            → AreDone (argument_moves of (register_of (registers.of number)) (state_parameters o) arguments) registers.scratch m (after_rows table.arrays moves.copies m)
             → StandsAt number (passed_state s (state_parameters o) arguments) (after_rows table.arrays moves.copies m)
         by_state (Some state) there many done = record {
           state = state;
           there = there;
-          holds = state_passed of (register_of (registers number)) s m (after_rows table.arrays moves.copies m) e.scratch number state.parameters arguments many holds done;
+          holds = state_passed of (register_of (registers.of number)) s m (after_rows table.arrays moves.copies m) registers.scratch number state.parameters arguments many holds done;
         }
         by_state None there many done = absurd many
 
     -- after the copies a region shows what it shows from the homes
     behind_same : (of : ℕ → ℕ) (s m : State) (to : ℕ) (homes : List Home) (leaf target : Leaf) → LeafIsThere table (Out to homes) → LeafHolds of (Out to homes) s m
-        → (moves : LeadsThroughMoves e rows leaf (home_moves of homes) target) → (n : ℕ)
+        → (moves : LeadsThroughMoves e registers.scratch rows leaf (home_moves of homes) target) → (n : ℕ)
         → region_run table (Next to) (after_rows table.arrays moves.copies m) n ≡ region_run table (Next to) (home_state s homes) n
     behind_same of s m to homes leaf target lives holds moves n =
         region_same table keeps to n (home_state s homes) (after_rows table.arrays moves.copies m)
-        (region_passed table of s m (after_rows table.arrays moves.copies m) e.scratch to homes lives.live holds (moves.arranged.done table.arrays m))
+        (region_passed table of s m (after_rows table.arrays moves.copies m) registers.scratch to homes lives.live holds (moves.arranged.done table.arrays m))
 
     -- what an automaton shows that leads out
     out_seen : (out : List ℤ) (s : State) (to : ℕ) (homes : List Home) (n : ℕ)
@@ -198,7 +199,7 @@ module _ (e : Emission) (keeps : TableKeeps e.table) (limits : Limits) (rows : L
     state_forth (suc n) regions number s m at never =
         let b = both_step number s m at in
         let goes = λ (k : ℕ). state_goes number s at.state k at.there in
-        let k = outcome_forth n (register_of (registers number)) (row_step table.arrays at.state.row s) (row_step table.arrays b.0 m) b.2
+        let k = outcome_forth n (register_of (registers.of number)) (row_step table.arrays at.state.row s) (row_step table.arrays b.0 m) b.2
         (λ k fault is. never (suc k) fault (ap (λ (x : Seen). x.end) (goes k) ∙ is))
         (λ number' t u at' never'. state_forth n (λ k less. regions k (omega arith)) number' t u at' never') (regions n (omega arith)) in (
           suc k.0,
@@ -263,7 +264,7 @@ module _ (e : Emission) (keeps : TableKeeps e.table) (limits : Limits) (rows : L
         let b = both_step number s m at in
         let a = row_step table.arrays at.state.row s in
         let goes = λ (k : ℕ). state_goes number s at.state k at.there in
-        let k = outcome_back n (register_of (registers number)) a (row_step table.arrays b.0 m) b.2
+        let k = outcome_back n (register_of (registers.of number)) a (row_step table.arrays b.0 m) b.2
         (λ k fault is. never (suc k) fault (ap (λ (x : Seen). x.end) (goes k) ∙ is))
         (λ number' t u at' never'. state_back n (λ k less to. regions k (omega arith) to) number' t u at' never') (λ to. regions n (omega arith) to) in (
           suc k.0,

@@ -24,8 +24,8 @@ use Rattle.pc_emit.specs.declared.output.Output.{Output}
 use Rattle.pc_emit.specs.declared.plan.Plan.{Plan}
 use Rattle.pc_emit.specs.declared.packed.PackedSite.{PackedSite}
 use Rattle.pc_emit.specs.models.Output.{OutputGrows}
-use Rattle.pc_emit.specs.models.Layout.{emission_in, states_at, names_at, IsSite}
-use Rattle.pc_emit.specs.models.Packing.{MovesAlong, MovesToRegion, LeafMade, RowMade}
+use Rattle.pc_emit.specs.models.Layout.{emission_in, states_at, registers_at, names_at, IsLeft, IsSite}
+use Rattle.pc_emit.specs.models.Packing.{CanMove, MovesAlong, MovesToRegion, LeafMade, RowMade}
 use Rattle.pc_emit.specs.models.Making.{CopiesMayLeadTo}
 use Rattle.pc_emit.proofs.Ways.{ways}
 use Rattle.pc_emit.proofs.Texts.{operand_short, item_short, operand_same, item_same}
@@ -33,22 +33,37 @@ use Rattle.pc_word.specs.Naming.{map_name, map_names}
 
 -- ---- moves
 
-module _ (plan : Plan) (output : Output) (from to : Leaf) (moves given : List Move) (are : moves ≡ given) (along : MovesAlong plan output from moves to) where
+module _ (plan : Plan) (site : PackedSite) (scratch : ℕ) (output : Output) (from to : Leaf) (moves given : List Move) (left : scratch ≡ (registers_at site).scratch) (are : moves ≡ given)
+    (along : MovesAlong plan scratch output from moves to) where
+  along_given : MovesAlong plan (registers_at site).scratch output from given to
+  along_given =
+      subst (λ (n : ℕ). MovesAlong plan n output from given to) left (subst (λ (m : List Move). MovesAlong plan scratch output from m to) are along)
+
   -- moves on the way to a state
-  pub moved_to_state : (site : PackedSite) (state row : ℕ) → IsSite plan site → row ≡ site.first + state → to ≡ machine.Goto row
-      → MovesAlong plan output from given (machine.Goto ((emission_in plan).places.state site.region state))
-  moved_to_state site state row is at leads =
-      subst (λ (l : Leaf). MovesAlong plan output from given l) (leads ∙ ap machine.Goto (at ∙ ap (λ (n : ℕ). n + state) is.begins))
-      (subst (λ (m : List Move). MovesAlong plan output from m to) are along)
+  pub moved_to_state : (state row : ℕ) → IsSite plan site → row ≡ site.first + state → to ≡ machine.Goto row
+      → MovesAlong plan (registers_at site).scratch output from given (machine.Goto ((emission_in plan).places.state site.region state))
+  moved_to_state state row is at leads =
+      subst (λ (l : Leaf). MovesAlong plan (registers_at site).scratch output from given l) (leads ∙ ap machine.Goto (at ∙ ap (λ (n : ℕ). n + state) is.begins))
+      along_given
 
   -- on the way to a region
-  pub moved_to_region : (region : ℕ) → LeadsToRegion (emission_in plan) region to → MovesToRegion plan output from given region
-  moved_to_region region leads = record { to = to; leads = leads; along = subst (λ (m : List Move). MovesAlong plan output from m to) are along }
+  pub moved_to_region : (region : ℕ) → LeadsToRegion (emission_in plan) region to → MovesToRegion plan (registers_at site).scratch output from given region
+  moved_to_region region leads = record { to = to; leads = leads; along = along_given }
 
 -- what leads to a state may stand after copies
 pub state_target : (plan : Plan) (site : PackedSite) (state row : ℕ) → IsSite plan site → state < length site.automaton.now → row ≡ site.first + state
     → CopiesMayLeadTo plan (machine.Goto row)
 state_target plan site state row is there at = record { within = let few = is.few in omega (arith, few, there, at); short = omega arith }
+
+-- the register that is left in a site's form is one of those that are enough
+pub site_left : (plan : Plan) (site : PackedSite) (scratch : ℕ) → IsSite plan site → scratch ≡ (registers_at site).scratch → IsLeft plan scratch
+site_left plan site scratch is left count enough =
+    let room = enough.left site.region (states_at site) (registers_at site) is.form in omega (arith, left, room)
+
+-- moves that can go through it
+pub can_move : (site : PackedSite) (scratch : ℕ) (moves given : List Move) → scratch ≡ (registers_at site).scratch → moves ≡ given → CanMove (registers_at site).scratch given
+    → CanMove scratch moves
+can_move site scratch moves given left are can = subst (λ (n : ℕ). CanMove n moves) (sym left) (subst (CanMove (registers_at site).scratch) (sym are) can)
 
 -- a state in memory is one of the states
 pub state_there : (site : PackedSite) (number : ℕ) (stored : StoredState) → slice_get site.automaton.now number ≡ Some stored
@@ -79,13 +94,13 @@ homes_short of homes moves bytes before are short =
 
 module _ (plan : Plan) (site : PackedSite) (of : ℕ → ℕ) (output : Output) (leaf : AutomatonLeaf) (made : Leaf) where
   pub leaf_to_state : (state : ℕ) (arguments : List Operand) → leaf ≡ To state arguments
-      → MovesAlong plan output made (argument_moves of (names_at site state) (state_parameters (slice_get (states_at site) state)) arguments)
+      → MovesAlong plan (registers_at site).scratch output made (argument_moves of (names_at site state) (state_parameters (slice_get (states_at site) state)) arguments)
       (machine.Goto ((emission_in plan).places.state site.region state))
       → LeafMade plan site of output leaf made
   leaf_to_state state arguments e along =
       subst (λ (l : AutomatonLeaf). LeafMade plan site of output l made) (sym e) (record { stands = λ final stays. leads_to_state (along.stands final stays) })
 
-  pub leaf_to_region : (region : ℕ) (homes : List Home) → leaf ≡ Out region homes → MovesToRegion plan output made (home_moves of homes) region
+  pub leaf_to_region : (region : ℕ) (homes : List Home) → leaf ≡ Out region homes → MovesToRegion plan (registers_at site).scratch output made (home_moves of homes) region
       → LeafMade plan site of output leaf made
   leaf_to_region region homes e led =
       subst (λ (l : AutomatonLeaf). LeafMade plan site of output l made) (sym e)
@@ -118,6 +133,8 @@ trap_short leaf kind line before e = subst (λ (l : AutomatonLeaf). before + 6 �
 
 pub ruleset leaves = (
   state_target,
+  site_left,
+  can_move,
   moved_to_state,
   moved_to_region,
   homes_short,

@@ -1,5 +1,5 @@
 -- Ways through rows of copies.
-use Rattle.std.proofs.Common.{◌≡◌, inl, inr, ℕ, suc, ◌+◌, ◌*◌, ◌<◌, ◌≤◌, List, [], ◌∷◌, ◌++◌, length, Option, Some, refl, sym, ◌∙◌, ap, subst, drop, drop-cons, get_or, arith}
+use Rattle.std.proofs.Common.{◌≡◌, inl, inr, ℕ, suc, ◌+◌, ◌*◌, ◌<◌, ◌≤◌, Bool, true, List, [], ◌∷◌, ◌++◌, length, Option, Some, refl, sym, ◌∙◌, ap, subst, drop, drop-cons, get_or, arith}
 use Rattle.std.specs.Prelude.{Contains}
 use Rattle.std.specs.List.{AllByRecursion}
 use Rattle.std.proofs.lemmas.List.{length-append, length-map}
@@ -7,14 +7,13 @@ use Rattle.std.proofs.lemmas.List.Elements.{Contains-push}
 use Rattle.std.proofs.lemmas.Option.{slice_get_within, slice_get-get_or}
 use Rattle.pc_word.proofs.Lists.{all_at}
 use Rattle.pc_word.proofs.Truth.{decide_le}
-use Rattle.pc_assign.specs.Pressure.{allowed}
 use Rattle.pc_copies.specs.declared.moves.Move.{Move}
-use Rattle.pc_copies.specs.Moves.{copies_in, IsCopyRow, IsArranged}
+use Rattle.pc_copies.specs.Moves.{nontrivial_moves, one_names, copies_in, IsCopyRow, IsArranged}
+use Rattle.pc_copies.proofs.Named.{named_all}
 use Rattle.pc_copies.specs.Laws.{copy_row}
 use Rattle.pc_machine.specs.declared.tree.Leaf.{Leaf}
 use Rattle.pc_machine.specs.declared.tree.Leaf.TheVariants.{Goto}
 use Rattle.pc_machine.specs.MachineCode.{CodeRow, row_of, rows_of}
-use Rattle.pc_machine.specs.Registers.{few_registers}
 use Rattle.pc_machine.specs.WellFormed.{IsLeaf, IsRow}
 use Rattle.pc_machine.specs.Reachable.{Behind, HasLeafTo}
 use Rattle.pc_object.specs.ObjectText.{leaf_text, row_text}
@@ -22,8 +21,8 @@ use Rattle.pc_emit.specs.declared.output.Output.{Output}
 use Rattle.pc_emit.specs.declared.plan.Plan.{Plan}
 use Rattle.pc_emit.specs.Emitted.{passes_none, passes_row}
 use Rattle.pc_emit.specs.models.Output.{bytes_of, Stays, OutputGrows, StandsAt, PassesAlong, EachCopy}
-use Rattle.pc_emit.specs.models.Layout.{rows_end}
-use Rattle.pc_emit.specs.models.Packing.{MovesAlong}
+use Rattle.pc_emit.specs.models.Layout.{rows_end, IsLeft}
+use Rattle.pc_emit.specs.models.Packing.{CanMove, MovesAlong}
 use Rattle.pc_emit.specs.models.Making.{CopiesMayLeadTo, IsOnTheWay, LeavesReached}
 use Rattle.pc_emit.proofs.Ways.{same_copies}
 use Rattle.pc_emit.proofs.Copying.{one_leaf, copies_fit, copies_short}
@@ -73,8 +72,10 @@ through_none plan output to target = record {
   bytes = omega arith;
 }
 
-module _ (plan : Plan) (old mid new : Output) (number : ℕ) (row : CodeRow) (copies : List Move) (more : List (List Move)) (next to : Leaf) (is : row ≡ copy_row copies next)
-    (through : LeadsThrough plan old mid next more to) (grows : OutputGrows mid new) (stands : StandsAt new number row) (fits : IsCopyRow plan.limits.ops allowed copies) where
+module _ (scratch : ℕ) (moves : List Move) (can : CanMove scratch moves) (plan : Plan) (left : IsLeft plan scratch)
+    (old mid new : Output) (number : ℕ) (row : CodeRow) (copies : List Move) (more : List (List Move)) (next to : Leaf) (is : row ≡ copy_row copies next)
+    (through : LeadsThrough plan old mid next more to) (grows : OutputGrows mid new) (stands : StandsAt new number row)
+    (fits : IsCopyRow (one_names (nontrivial_moves moves)) plan.limits.ops scratch copies) where
   -- what leads to the row
   abbrev Here : List CodeRow → Type 0
   Here = LeavesReached (Goto number ∷ [])
@@ -85,13 +86,20 @@ module _ (plan : Plan) (old mid new : Output) (number : ℕ) (row : CodeRow) (co
       Behind (reached number (Contains-push [] (Goto number))) (stands.stands final stays)
       (subst (λ (r : CodeRow). HasLeafTo r to) (sym is) (subst (λ (l : List Leaf). Contains l (Goto to)) (sym (one_leaf copies next)) has))
 
+  -- the registers that the moves name
+  moves_below : (count : ℕ) → scratch < count → (register : ℕ) → one_names (nontrivial_moves moves) register ≡ true → register < count
+  moves_below count room = named_all (λ register. register < count) moves (λ at move there.
+      let low = can.below at move there in
+      record { dest = let first = low.dest in omega (arith, first, room); from = λ register e. let second = low.from register e in omega (arith, second, room) })
+
   -- the row itself
   own_way : (final : List CodeRow) → Stays new final → IsOnTheWay plan Here final number
   own_way final stays = record {
-    fits = λ le other there.
+    fits = λ count enough le other there.
         let same : row ≡ other = same_row (stands.stands final stays) there in
-        subst (IsRow plan.limits few_registers (length plan.table.now.arrays) (length final)) (sym is ∙ same)
-        (copies_fit plan.limits (length plan.table.now.arrays) (length final) copies next fits (through.within final (grows.stays final stays) le));
+        subst (IsRow plan.limits count (length plan.table.now.arrays) (length final)) (sym is ∙ same)
+        (copies_fit count (one_names (nontrivial_moves moves)) scratch (moves_below count (left count enough)) (left count enough)
+        plan.limits (length plan.table.now.arrays) (length final) copies next fits (through.within final (grows.stays final stays) le));
     reached = λ reached. reached number (Contains-push [] (Goto number));
   }
     where
@@ -156,17 +164,17 @@ through_from plan old new rows at copies from to lt is through =
     (sym (drop-cons rows at copies lt ∙ ap (λ (c : List Move). c ∷ drop (suc at) rows) (sym is))) through
 
 -- the row at a place is one
-pub row_at : (ops : ℕ) (rows : List (List Move)) (at : ℕ) (copies : List Move) → AllByRecursion (IsCopyRow ops allowed) rows → at < length rows → copies ≡ get_or rows at copies
-    → IsCopyRow ops allowed copies
-row_at ops rows at copies all lt is =
-    all_at (IsCopyRow ops allowed) rows at copies all (slice_get-get_or rows at copies lt ∙ ap (λ (c : List Move). Some c) (sym is))
+pub row_at : (named : ℕ → Bool) (ops scratch : ℕ) (rows : List (List Move)) (at : ℕ) (copies : List Move) → AllByRecursion (IsCopyRow named ops scratch) rows → at < length rows
+    → copies ≡ get_or rows at copies → IsCopyRow named ops scratch copies
+row_at named ops scratch rows at copies all lt is =
+    all_at (IsCopyRow named ops scratch) rows at copies all (slice_get-get_or rows at copies lt ∙ ap (λ (c : List Move). Some c) (sym is))
 
 -- ---- through all rows
 
-module _ (plan : Plan) (old new : Output) (from to : Leaf) (moves : List Move) (rows : List (List Move)) (through : LeadsThrough plan old new from rows to)
-    (arranged : IsArranged moves plan.limits.ops allowed rows) where
+module _ (plan : Plan) (scratch : ℕ) (old new : Output) (from to : Leaf) (moves : List Move) (rows : List (List Move)) (through : LeadsThrough plan old new from rows to)
+    (arranged : IsArranged moves plan.limits.ops scratch rows) where
   -- copies that were arranged do their moves on the way
-  pub moves_along : MovesAlong plan new from moves to
+  pub moves_along : MovesAlong plan scratch new from moves to
   moves_along = record { stands = λ final stays. record { copies = rows; arranged = arranged; passes = through.passes.passes final stays } }
 
   -- and are no longer than was counted

@@ -14,6 +14,7 @@ use Rattle.pc_automaton.specs.declared.automaton.AutomatonLeaf.{AutomatonLeaf}
 use Rattle.pc_automaton.specs.declared.automaton.AutomatonLeaf.TheVariants.{To, Out, Stop, Trap}
 use Rattle.pc_automaton.specs.Automaton.{AutomatonState}
 use Rattle.pc_automaton.specs.Reachable.{EachIsReachable}
+use Rattle.pc_assign.specs.Assigned.{Registers}
 use Rattle.pc_copies.specs.declared.moves.Move.{Move}
 use Rattle.pc_copies.specs.Laws.{copy_row}
 use Rattle.pc_machine.specs.declared.tree.Leaf.{Leaf}
@@ -151,13 +152,13 @@ module _ (e : Emission) (rows : List CodeRow) (emitted : IsEmitted e rows) (keep
 
   -- ---- automata
 
-  module _ (region : ℕ) (states : List AutomatonState) (registers : ℕ → ℕ → Option ℕ)
+  module _ (region : ℕ) (states : List AutomatonState) (registers : Registers)
       (stand : (number : ℕ) (state : AutomatonState) → slice_get states number ≡ Some state → StateStands e rows region states registers number state)
       (led_to : EachIsReachable states) where
     -- where a leaf of a state that is reached leads
     leaf_led : (number : ℕ) (state : AutomatonState) (leaf : AutomatonLeaf) → slice_get states number ≡ Some state → IsReachable rows (e.places.state region number)
         → Contains (leaves_of state.row) leaf
-        → (below : Leaf) × LeafStands e rows region states registers (register_of (registers number)) leaf below × IsLed below
+        → (below : Leaf) × LeafStands e rows region states registers (register_of (registers.of number)) leaf below × IsLed below
     leaf_led number state leaf there reached has =
         let stands = stand number state there in
         let it = stands_for leaf stands.stands has in
@@ -178,7 +179,7 @@ module _ (e : Emission) (rows : List CodeRow) (emitted : IsEmitted e rows) (keep
         let led = led_to number within in
         let before = below_reached first most led.from (let earlier = led.earlier in omega (arith, earlier, lt)) (slice_get_within states led.from led.state led.there) in
         let leaf = leaf_led led.from led.state (To (suc number) led.arguments) led.there before led.leaf in
-        state_led (register_of (registers led.from)) (suc number) led.arguments leaf.0 leaf.1 leaf.2
+        state_led (register_of (registers.of led.from)) (suc number) led.arguments leaf.0 leaf.1 leaf.2
 
     states_reached : IsReachable rows (e.places.state region 0) → (number : ℕ) → number < length states → IsReachable rows (e.places.state region number)
     states_reached first number within = below_reached first (suc number) number (omega arith) within
@@ -196,7 +197,7 @@ module _ (e : Emission) (rows : List CodeRow) (emitted : IsEmitted e rows) (keep
         of_leaf number state there (Out region homes) has names =
             let reached = states_reached first number (slice_get_within states number state there) in
             let leaf = leaf_led number state (Out region homes) there reached has in
-            subst RegionLed (only region to names) (region_led (register_of (registers number)) region homes leaf.0 leaf.1 leaf.2)
+            subst RegionLed (only region to names) (region_led (register_of (registers.of number)) region homes leaf.0 leaf.1 leaf.2)
         of_leaf number state there Stop has names = absurd (omega (arith, names.1))
         of_leaf number state there (Trap kind line) has names = absurd (omega (arith, names.1))
 
@@ -224,7 +225,7 @@ module _ (e : Emission) (rows : List CodeRow) (emitted : IsEmitted e rows) (keep
     pub own : RowsReached (form_row e region form) (form_row e region form + rows_in (region_tree e.table region) (Some form)) rows
     pub named : (to : ℕ) → Contains (form_leads (region_tree e.table region) form) to → RegionLed to
 
-  module _ (led_to : (region : ℕ) (states : List AutomatonState) (registers : ℕ → ℕ → Option ℕ) → e.forms region ≡ Some (ByAutomaton states registers) → EachIsReachable states)
+  module _ (led_to : (region : ℕ) (states : List AutomatonState) (registers : Registers) → e.forms region ≡ Some (ByAutomaton states registers) → EachIsReachable states)
       (in_order : (region number : ℕ) → e.places.state region number ≡ e.places.state region 0 + number) where
     pub region_reached : (region : ℕ) (form : RegionForm) → e.forms region ≡ Some form → RegionLed region → RegionReached region form
     region_reached region Plain has led =

@@ -1,5 +1,5 @@
 -- The rows of regions keep the limits.
-use Rattle.std.proofs.Common.{ℕ, [], ◌∷◌, arith}
+use Rattle.std.proofs.Common.{ℕ, ◌≤◌, [], ◌∷◌, arith}
 use Rattle.std.specs.Prelude.{nat_eq}
 use Rattle.std.specs.List.{IsDistinct, filter_map}
 use Rattle.std.proofs.lemmas.List.Sums.{count_by-le-length}
@@ -13,26 +13,25 @@ use Rattle.pc_word.specs.Items.{dest_of, is_effect, is_memory}
 use Rattle.pc_word.specs.Row.{Then, Either, At_leaf}
 use Rattle.pc_table.specs.TableKeeps.{NamesVariable, ItemIsThere}
 use Rattle.pc_machine.specs.declared.tree.Leaf.{Leaf}
-use Rattle.pc_machine.specs.Registers.{few_registers}
 use Rattle.pc_machine.specs.WellFormed.{IsOperand, IsItem, IsLeaf, IsPath, IsRow}
 
 -- ---- rows of one item or test
 
 -- a variable is a register
-operand_fits : (operand : Operand) → NamesVariable operand → IsOperand few_registers operand
-operand_fits (Name name) h = omega (arith, h)
-operand_fits (Lit value) h = tt
+operand_fits : (registers : ℕ) → 96 ≤ registers → (operand : Operand) → NamesVariable operand → IsOperand registers operand
+operand_fits registers room (Name name) h = omega (arith, room, h)
+operand_fits registers room (Lit value) h = tt
 
 -- an item of a table is one of the machine
-item_fits : (arrays : ℕ) (item : Item) → ItemIsThere arrays item → IsItem few_registers arrays item
-item_fits arrays (Bin op dest left right) h =
-    (let w = h.writes in omega (arith, w), operand_fits left h.reads.0, operand_fits right h.reads.1.0)
-item_fits arrays (Copy dest from) h = (let w = h.writes in omega (arith, w), operand_fits from h.reads.0)
-item_fits arrays (Load dest array index) h = (let w = h.writes in omega (arith, w), h.array, operand_fits index h.reads.0)
-item_fits arrays (Store array index value) h = (h.array, operand_fits index h.reads.0, operand_fits value h.reads.1.0)
-item_fits arrays (Print value) h = operand_fits value h.reads.0
-item_fits arrays (Read dest) h = let w = h.writes in omega (arith, w)
-item_fits arrays (More dest) h = let w = h.writes in omega (arith, w)
+item_fits : (registers : ℕ) → 96 ≤ registers → (arrays : ℕ) (item : Item) → ItemIsThere arrays item → IsItem registers arrays item
+item_fits registers room arrays (Bin op dest left right) h =
+    (let w = h.writes in omega (arith, room, w), operand_fits registers room left h.reads.0, operand_fits registers room right h.reads.1.0)
+item_fits registers room arrays (Copy dest from) h = (let w = h.writes in omega (arith, room, w), operand_fits registers room from h.reads.0)
+item_fits registers room arrays (Load dest array index) h = (let w = h.writes in omega (arith, room, w), h.array, operand_fits registers room index h.reads.0)
+item_fits registers room arrays (Store array index value) h = (h.array, operand_fits registers room index h.reads.0, operand_fits registers room value h.reads.1.0)
+item_fits registers room arrays (Print value) h = operand_fits registers room value h.reads.0
+item_fits registers room arrays (Read dest) h = let w = h.writes in omega (arith, room, w)
+item_fits registers room arrays (More dest) h = let w = h.writes in omega (arith, room, w)
 
 -- one item alone writes each register once
 writes_once : (item : Item) → IsDistinct nat_eq (filter_map dest_of (item ∷ []))
@@ -52,31 +51,31 @@ none_is_path : IsPath []
 unfolding IsDistinct
 none_is_path = record { writes_once = tt; one_effect = omega arith }
 
-module _ (limits : Limits) (fine : AreLimits limits) (arrays rows : ℕ) where
-  pub item_row_fits : (item : Item) (leaf : Leaf) → ItemIsThere arrays item → IsLeaf rows leaf → IsRow limits few_registers arrays rows (Then item (At_leaf leaf))
+module _ (registers : ℕ) (room : 96 ≤ registers) (limits : Limits) (fine : AreLimits limits) (arrays rows : ℕ) where
+  pub item_row_fits : (item : Item) (leaf : Leaf) → ItemIsThere arrays item → IsLeaf rows leaf → IsRow limits registers arrays rows (Then item (At_leaf leaf))
   item_row_fits item leaf fits is = record {
     ops = let low = fine.ops.0 in omega (arith, low);
     tests = omega arith;
     mem = let low = fine.mem.0 in let few = count_by-le-length is_memory (item ∷ []) in omega (arith, low, few);
-    items = (item_fits arrays item fits, tt);
+    items = (item_fits registers room arrays item fits, tt);
     operands = tt;
     leaves = (is, tt);
     paths = (alone_is_path item, tt);
   }
 
   pub test_row_fits : (on : Operand) (one other : Leaf) → NamesVariable on → IsLeaf rows one → IsLeaf rows other
-      → IsRow limits few_registers arrays rows (Either on (At_leaf one) (At_leaf other))
+      → IsRow limits registers arrays rows (Either on (At_leaf one) (At_leaf other))
   test_row_fits on one other fits is is_too = record {
     ops = omega arith;
     tests = let low = fine.tests.0 in omega (arith, low);
     mem = omega arith;
     items = tt;
-    operands = (operand_fits on fits, tt);
+    operands = (operand_fits registers room on fits, tt);
     leaves = (is, (is_too, tt));
     paths = (none_is_path, (none_is_path, tt));
   }
 
-  pub leaf_row_fits : (leaf : Leaf) → IsLeaf rows leaf → IsRow limits few_registers arrays rows (At_leaf leaf)
+  pub leaf_row_fits : (leaf : Leaf) → IsLeaf rows leaf → IsRow limits registers arrays rows (At_leaf leaf)
   leaf_row_fits leaf is = record {
     ops = omega arith;
     tests = omega arith;

@@ -1,14 +1,14 @@
 -- The bytes that are counted for a table's regions in their forms, before any row is made. The rows that are emitted are
 -- never longer.
-use Rattle.std.specs.Prelude.{ℕ, zero, ◌+◌, ◌*◌, List, [], ◌∷◌, length, Option, Some, None}
+use Rattle.std.specs.Prelude.{ℕ, ℤ, zero, ◌+◌, ◌*◌, List, [], ◌∷◌, length, Option, Some, None}
 use Rattle.pc_word.specs.Row.{Row, Then, Either, At_leaf}
 use Rattle.pc_table.specs.Table.{TableTree, Does, Asks, Next, Stops_here, Traps_here, TableRegion, Table}
 use Rattle.pc_automaton.specs.declared.automaton.AutomatonLeaf.{AutomatonLeaf}
 use Rattle.pc_automaton.specs.declared.automaton.AutomatonLeaf.TheVariants.{To, Out, Stop, Trap}
 use Rattle.pc_automaton.specs.Automaton.{AutomatonState}
 use Rattle.pc_emit.specs.Emitted.{RegionForm, Plain, ByAutomaton}
-use Rattle.pc_object.specs.declared.version.Version.TheVariants.{Ptv1}
-use Rattle.pc_object.specs.Sizes.{item_bytes, test_bytes, goto_bytes, end_bytes, trap_bytes, header_bytes, length_bytes, count_bytes, note_bytes}
+use Rattle.pc_object.specs.declared.version.Version.TheVariants.{Ptv2}
+use Rattle.pc_object.specs.Sizes.{item_bytes, test_bytes, goto_bytes, end_bytes, trap_bytes, header_bytes, length_bytes, initial_bytes, count_bytes, note_bytes}
 
 -- for each argument or home that is passed, two rows of one copy
 abbrev pub passed_bytes : ℕ
@@ -61,7 +61,9 @@ abbrev pub regions_bytes : (ℕ → Option RegionForm) → (number : ℕ) → Li
 regions_bytes forms number [] = zero
 regions_bytes forms number (region ∷ regions) = form_bytes region.tree (forms number) + regions_bytes forms (1 + number) regions
 
--- an object of a table in these forms, as PTV1: its header and arrays, its regions, and a note for each loop
-abbrev pub object_bytes : Table → (ℕ → Option RegionForm) → ℕ
-object_bytes table forms =
-    header_bytes Ptv1 + length_bytes * length table.arrays + (regions_bytes forms 0 table.regions + (count_bytes + note_bytes * length table.loops))
+-- an object of a table whose arrays begin with these data in these forms, as PTV2, which is the longer one: its header, its
+-- arrays and their data, its regions, and a note for each loop
+abbrev pub object_bytes : Table → (initial : List (List ℤ)) → (ℕ → Option RegionForm) → ℕ
+object_bytes table initial forms =
+    header_bytes Ptv2 + (length_bytes * length table.arrays + initial_bytes Ptv2 initial)
+    + (regions_bytes forms 0 table.regions + (count_bytes + note_bytes * length table.loops))

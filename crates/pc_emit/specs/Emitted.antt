@@ -12,6 +12,7 @@ use Rattle.pc_automaton.specs.declared.automaton.AutomatonLeaf.{AutomatonLeaf}
 use Rattle.pc_automaton.specs.declared.automaton.AutomatonLeaf.TheVariants.{To, Out, Stop, Trap}
 use Rattle.pc_automaton.specs.Automaton.{AutomatonState}
 use Rattle.pc_automaton.specs.AutomatonRun.{state_parameters}
+use Rattle.pc_assign.specs.Assigned.{Registers}
 use Rattle.pc_machine.specs.declared.tree.Leaf.{Leaf}
 use Rattle.pc_machine.specs.declared.tree.Leaf.TheVariants as machine
 use Rattle.pc_machine.specs.MachineCode.{CodeRow}
@@ -23,23 +24,22 @@ use Rattle.pc_word.specs.Naming.{map_name, map_names}
 
 -- ---- forms
 
--- the form of a region: a row for each item and test; or an automaton, with the register of each name of each state
+-- the form of a region: a row for each item and test; or an automaton, with registers for the names of its states
 pub data RegionForm : Type 0 where
   Plain : RegionForm
-  ByAutomaton : (states : List AutomatonState) → (registers : ℕ → ℕ → Option ℕ) → RegionForm
+  ByAutomaton : (states : List AutomatonState) → (registers : Registers) → RegionForm
 
 -- the rows at which plain regions begin, and the rows of the states of packed ones
 pub record Places : Type 0 where
   pub entry : ℕ → ℕ
   pub state : ℕ → ℕ → ℕ
 
--- the form of each region of a table that has one, where each stands, how many copies a row may have, and the register for them
+-- the form of each region of a table that has one, where each stands, and how many copies a row may have
 pub record Emission : Type 0 where
   pub table : Table
   pub forms : ℕ → Option RegionForm
   pub places : Places
   pub ops : ℕ
-  pub scratch : ℕ
 
 -- ---- leaves
 
@@ -68,21 +68,22 @@ pub data Passes (rows : List CodeRow) : Leaf → List (List Move) → Leaf → T
   passes_row : {at : ℕ} {copies : List Move} {more : List (List Move)} {next leaf : Leaf} → slice_get rows at ≡ Some (copy_row copies next)
       → Passes rows next more leaf → Passes rows (machine.Goto at) (copies ∷ more) leaf
 
--- from one leaf to another through copies that do these moves at once
-pub record LeadsThroughMoves (e : Emission) (rows : List CodeRow) (from : Leaf) (moves : List Move) (to : Leaf) : Type 0 where
+-- from one leaf to another through copies that do these moves at once, with scratch for cycles
+pub record LeadsThroughMoves (e : Emission) (scratch : ℕ) (rows : List CodeRow) (from : Leaf) (moves : List Move) (to : Leaf) : Type 0 where
   pub copies : List (List Move)
-  pub arranged : IsArranged moves e.ops e.scratch copies
+  pub arranged : IsArranged moves e.ops scratch copies
   pub passes : Passes rows from copies to
 
 -- ---- automata
 
 -- a leaf of a state, whose names have these registers: it leads on through the copies that pass its arguments or homes
-pub data LeafStands (e : Emission) (rows : List CodeRow) (region : ℕ) (states : List AutomatonState) (registers : ℕ → ℕ → Option ℕ) (of : ℕ → ℕ)
+pub data LeafStands (e : Emission) (rows : List CodeRow) (region : ℕ) (states : List AutomatonState) (registers : Registers) (of : ℕ → ℕ)
     : AutomatonLeaf → Leaf → Type 0 where
   leads_to_state : {number : ℕ} {arguments : List Operand} {leaf : Leaf}
-      → LeadsThroughMoves e rows leaf (argument_moves of (register_of (registers number)) (state_parameters (slice_get states number)) arguments) (machine.Goto (e.places.state region number))
+      → LeadsThroughMoves e registers.scratch rows leaf
+      (argument_moves of (register_of (registers.of number)) (state_parameters (slice_get states number)) arguments) (machine.Goto (e.places.state region number))
       → LeafStands e rows region states registers of (To number arguments) leaf
-  leads_to_region : {to : ℕ} {homes : List Home} {leaf target : Leaf} → LeadsToRegion e to target → LeadsThroughMoves e rows leaf (home_moves of homes) target
+  leads_to_region : {to : ℕ} {homes : List Home} {leaf target : Leaf} → LeadsToRegion e to target → LeadsThroughMoves e registers.scratch rows leaf (home_moves of homes) target
       → LeafStands e rows region states registers of (Out to homes) leaf
   ends_here : LeafStands e rows region states registers of Stop machine.Stop
   traps_here : {kind : TrapKind} {line : ℕ} → LeafStands e rows region states registers of (Trap kind line) (machine.Trap kind line)
@@ -97,11 +98,11 @@ pub data RowStands (Related : AutomatonLeaf → Leaf → Type 0) (of : ℕ → �
   leaf_stands : {leaf : AutomatonLeaf} {below : Leaf} → Related leaf below → RowStands Related of (At_leaf leaf) (At_leaf below)
 
 -- the row of a state
-pub record StateStands (e : Emission) (rows : List CodeRow) (region : ℕ) (states : List AutomatonState) (registers : ℕ → ℕ → Option ℕ) (number : ℕ)
+pub record StateStands (e : Emission) (rows : List CodeRow) (region : ℕ) (states : List AutomatonState) (registers : Registers) (number : ℕ)
     (state : AutomatonState) : Type 0 where
   pub row : CodeRow
   pub there : slice_get rows (e.places.state region number) ≡ Some row
-  pub stands : RowStands (LeafStands e rows region states registers (register_of (registers number))) (register_of (registers number)) state.row row
+  pub stands : RowStands (LeafStands e rows region states registers (register_of (registers.of number))) (register_of (registers.of number)) state.row row
 
 -- ---- plain regions
 
@@ -141,7 +142,7 @@ pub data BeginsAt (rows : List CodeRow) : Leaf → Type 0 where
 -- row 0 is the first row of region 0, if this is packed
 abbrev pub BeginsAtFirstRow : Emission → Type 0
 BeginsAtFirstRow e =
-    (states : List AutomatonState) (registers : ℕ → ℕ → Option ℕ) → e.forms 0 ≡ Some (ByAutomaton states registers) → e.places.state 0 0 ≡ 0
+    (states : List AutomatonState) (registers : Registers) → e.forms 0 ≡ Some (ByAutomaton states registers) → e.places.state 0 0 ≡ 0
 
 -- the rows of a code: those of each region that has a form, region 0 among them
 pub record IsEmitted (e : Emission) (rows : List CodeRow) : Type 0 where

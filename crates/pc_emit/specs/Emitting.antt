@@ -12,11 +12,11 @@ use Rattle.pc_automaton.specs.Automaton.{AutomatonState, IsAutomaton, states_in}
 use Rattle.pc_automaton.specs.There.{StateIsThere}
 use Rattle.pc_automaton.specs.Reachable.{EachIsReachable}
 use Rattle.pc_automaton.specs.RowFits.{RowFits}
-use Rattle.pc_assign.specs.Pressure.{allowed}
+use Rattle.pc_assign.specs.Assigned.{Registers}
 use Rattle.pc_assign.specs.Apart.{IsApart}
 use Rattle.pc_assign.specs.Stored.{registers_in}
 use Rattle.pc_machine.specs.MachineCode.{CodeRow}
-use Rattle.pc_machine.specs.Registers.{few_registers}
+use Rattle.pc_machine.specs.Registers.{most_registers}
 use Rattle.pc_machine.specs.WellFormed.{IsRow}
 use Rattle.pc_machine.specs.Reachable.{IsReachable}
 use Rattle.pc_object.specs.ObjectText.{row_text}
@@ -24,7 +24,7 @@ use Rattle.pc_emit.specs.declared.form.RegionForm.{RegionForm as StoredForm}
 use Rattle.pc_emit.specs.declared.form.RegionForm.TheVariants as stored
 use Rattle.pc_emit.specs.Emitted.{RegionForm, Plain, ByAutomaton, Emission, BeginsAtFirstRow, IsEmitted}
 use Rattle.pc_emit.specs.Leading.{IsMet}
-use Rattle.pc_emit.specs.Bytes.{regions_bytes, object_bytes}
+use Rattle.pc_emit.specs.Bytes.{regions_bytes}
 
 -- ---- what is emitted
 
@@ -39,26 +39,31 @@ form_in (Some (Some (stored.ByAutomaton automaton registers))) = Some (ByAutomat
 abbrev pub region_forms : List (Option StoredForm) → ℕ → Option RegionForm
 region_forms forms region = form_in (slice_get forms region)
 
--- what is emitted where each region begins at one of these rows: the states of an automaton stand in their order, and copies
--- go through register 127
+-- what is emitted where each region begins at one of these rows: the states of an automaton stand in their order
 abbrev pub emission_of : Table → List (Option StoredForm) → (entries : List ℕ) → (ops : ℕ) → Emission
 emission_of table forms entries ops = record {
   table = table;
   forms = region_forms forms;
   places = record { entry = slice_index entries; state = λ region number. slice_index entries region + number };
   ops = ops;
-  scratch = allowed;
 }
 
+-- So many registers are enough for these forms: all variables are among them, and in each form the register that is left for
+-- moves, below which stand those of all names.
+pub record AreEnough (count : ℕ) (forms : ℕ → Option RegionForm) : Type 0 where
+  pub variables : 96 ≤ count
+  pub left : (region : ℕ) (states : List AutomatonState) (registers : Registers) → forms region ≡ Some (ByAutomaton states registers)
+      → registers.scratch < count
+
 -- These rows are those of a table's regions in these forms, and row 0 is the first of region 0 where that has an automaton. There
--- is one; each keeps the limits of the machine and its own, leaves lead to each from row 0, and together they are no longer than
--- was counted.
+-- is one; each keeps the limits of the machine and its own, and names none but the registers that are enough for the forms; leaves
+-- lead to each from row 0, and together they are no longer than was counted.
 pub record AreEmitted (table : Table) (forms : List (Option StoredForm)) (limits : Limits) (rows : List CodeRow) : Type 0 where
   pub entries : List ℕ
   pub are : IsEmitted (emission_of table forms entries limits.ops) rows
   pub first_row : BeginsAtFirstRow (emission_of table forms entries limits.ops)
   pub some : 1 ≤ length rows
-  pub fit : AllByRecursion (IsRow limits few_registers (length table.arrays) (length rows)) rows
+  pub fit : (count : ℕ) → AreEnough count (region_forms forms) → AllByRecursion (IsRow limits count (length table.arrays) (length rows)) rows
   pub reached : (row : ℕ) → row < length rows → IsReachable rows row
   pub short : length (flat_map row_text rows) ≤ regions_bytes (region_forms forms) 0 table.regions
 
@@ -85,13 +90,16 @@ LeadsToForm table forms (Out region homes) = HasForm table forms region
 LeadsToForm table forms Stop = Unit {0}
 LeadsToForm table forms (Trap kind line) = Unit {0}
 
--- an automaton that may be emitted: names that are live together have different registers, all registers are below 127, what its
--- leaves lead out to is there and has a form, its rows keep the limits, and each state but the first is reachable
-pub record CanPack (table : Table) (limits : Limits) (forms : ℕ → Option RegionForm) (states : List AutomatonState) (registers : ℕ → ℕ → Option ℕ)
+-- an automaton that may be emitted: names that are live together have different registers, all registers are below the one that is
+-- left for moves, and so are all variables, what its leaves lead out to is there and has a form, its rows keep the limits, and each
+-- state but the first is reachable
+pub record CanPack (table : Table) (limits : Limits) (forms : ℕ → Option RegionForm) (states : List AutomatonState) (registers : Registers)
     : Type 0 where
   pub automaton : IsAutomaton states
-  pub apart : (number : ℕ) (state : AutomatonState) → slice_get states number ≡ Some state → IsApart (registers number) state
-  pub below : (number name register : ℕ) → registers number name ≡ Some register → register < allowed
+  pub apart : (number : ℕ) (state : AutomatonState) → slice_get states number ≡ Some state → IsApart registers.scratch (registers.of number) state
+  pub below : (number name register : ℕ) → registers.of number name ≡ Some register → register < registers.scratch
+  pub variables : 96 ≤ registers.scratch
+  pub most : registers.scratch < most_registers
   pub there : AllByRecursion (StateIsThere table) states
   pub out : (number : ℕ) (state : AutomatonState) → slice_get states number ≡ Some state → AllByRecursion (LeadsToForm table forms) (leaves_of state.row)
   pub fit : AllByRecursion (λ state. RowFits limits state.row) states
@@ -103,10 +111,10 @@ CanHave table limits forms tree Plain = NamesHaveForms table forms tree
 CanHave table limits forms tree (ByAutomaton states registers) = CanPack table limits forms states registers
 
 -- Forms of a table's regions that may be emitted: region 0 has one, each is one that its region may have, only regions that
--- are led to from region 0 have one, no region that is a trap alone is plain, and the object is short enough.
+-- are led to from region 0 have one, no region that is a trap alone is plain, and the rows are short enough.
 pub record AreForms (table : Table) (limits : Limits) (forms : ℕ → Option RegionForm) : Type 0 where
   pub first : HasForm table forms 0
   pub each : (region : ℕ) (form : RegionForm) → forms region ≡ Some form → CanHave table limits forms (region_tree table region) form
   pub met : (region : ℕ) (form : RegionForm) → forms region ≡ Some form → IsMet table forms region
   pub traps : (region line : ℕ) (kind : TrapKind) → region_tree table region ≡ Traps_here kind line → forms region ≡ Some Plain → ⊥
-  pub short : object_bytes table forms ≤ most_object
+  pub short : regions_bytes forms 0 table.regions ≤ most_object

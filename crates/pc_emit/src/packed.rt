@@ -2,8 +2,6 @@
 ghost use Rattle.std.specs.Prelude.{◌≡◌, ◌+◌, ◌*◌, ◌<◌, ◌≤◌, [], ◌∷◌, length, slice_get, IfOk, OnOk};
 ghost use Rattle.pc_word.specs.Row.{leaves_of};
 ghost use Rattle.pc_automaton.specs.AutomatonRun.{state_parameters};
-ghost use Rattle.pc_assign.specs.Pressure.{allowed};
-ghost use Rattle.pc_copies.specs.Moves.{AreMoves};
 ghost use Rattle.pc_machine.specs.declared.tree.Leaf.TheVariants.{Goto};
 ghost use Rattle.pc_machine.specs.MachineCode.{row_of, rows_of};
 ghost use Rattle.pc_object.specs.ObjectText.{leaf_text, row_text};
@@ -12,7 +10,7 @@ ghost use Rattle.pc_emit.specs.Emitting.{HasForm};
 ghost use Rattle.pc_emit.specs.Bytes.{passed_bytes, leaf_bytes, row_bytes, states_bytes};
 ghost use Rattle.pc_emit.specs.models.Output.{bytes_of, of_state, EachCopy, OutputGrows};
 ghost use Rattle.pc_emit.specs.models.Layout.{emission_in, rows_end, forms_at, names_at, registers_at, states_at, table_in, IsPlan, IsSite};
-ghost use Rattle.pc_emit.specs.models.Packing.{CanMakeLeaf, CanMakeRow, LeafMade, RowMade, StatesMade, MovesAlong, MovesToRegion};
+ghost use Rattle.pc_emit.specs.models.Packing.{CanMove, CanMakeLeaf, CanMakeRow, LeafMade, RowMade, StatesMade, MovesAlong, MovesToRegion};
 ghost use Rattle.pc_emit.specs.models.Making.{IsOnTheWay, LeavesReached, RowsReached};
 ghost use Rattle.pc_word.specs.StoredRow.{row_in};
 ghost use Rattle.pc_object.specs.Sizes.{goto_bytes};
@@ -142,7 +140,7 @@ fn packed_leaf(
             )
         }
         AutomatonLeaf::Out { region, homes } => {
-            to_region(alloc, plan, names, *region, homes.as_slice(), output)
+            to_region(alloc, plan, site, names, *region, homes.as_slice(), output)
         }
         AutomatonLeaf::Stop => Ok(Leaf::Stop),
         AutomatonLeaf::Trap { kind, line } => Ok(Leaf::Trap {
@@ -168,11 +166,11 @@ fn to_state(
     requires base { output.old.base ≡ rows_end plan.now }
     requires there { state < length site.now.automaton.now }
     requires as_many { length arguments.now ≡ length (state_parameters (slice_get (states_at site.now) state)) }
-    requires moves { AreMoves allowed
+    requires moves { CanMove (registers_at site.now).scratch
         (argument_moves (of_state names.now) (names_at site.now state) (state_parameters (slice_get (states_at site.now) state)) arguments.now) }
     ensures grows { OnOk result (OutputGrows output.old output.new) }
     ensures rows { OnOk result (output.new.rows ≡ output.old.rows) }
-    ensures moved { IfOk result (λ made. MovesAlong plan.now output.new made
+    ensures moved { IfOk result (λ made. MovesAlong plan.now (registers_at site.now).scratch output.new made
         (argument_moves (of_state names.now) (names_at site.now state) (state_parameters (slice_get (states_at site.now) state)) arguments.now)
         (Goto ((emission_in plan.now).places.state site.now.region state))) }
     ensures ways { IfOk result (λ made. EachCopy (IsOnTheWay plan.now (LeavesReached (made ∷ []))) output.old output.new) }
@@ -180,13 +178,15 @@ fn to_state(
         ≤ bytes_of (rows_of output.old.copies.items) + (goto_bytes + passed_bytes * length arguments.now)) }
 {
     let parameters = site.automaton.state(state).parameters.as_slice();
-    let to = StateNames {
+    let passed = StateNames {
         registers: site.registers,
         state,
     };
-    let moves = argument_moves(alloc, names, &to, parameters, arguments)?;
+    let moves = argument_moves(alloc, names, &passed, parameters, arguments)?;
     let row = site.first + state;
-    move_along(alloc, plan, moves.as_slice(), Leaf::Goto { row }, output)
+    let scratch = site.registers.scratch();
+    let to = Leaf::Goto { row };
+    move_along(alloc, plan, scratch, moves.as_slice(), to, output)
 }
 
 /// The leaf that leads to a region, through the copies that bring variables home.
@@ -194,23 +194,26 @@ fn to_state(
 fn to_region(
     alloc: Global,
     plan: &Plan,
+    site: &PackedSite,
     names: &StateNames,
     region: u32,
     homes: &[Home],
     output: &mut Output,
 ) -> Result<Leaf, EmitError>
+    requires site { IsSite plan.now site.now }
     requires plan { IsPlan plan.now }
     requires base { output.old.base ≡ rows_end plan.now }
     requires form { HasForm (table_in plan.now) (forms_at plan.now) region }
-    requires moves { AreMoves allowed (home_moves (of_state names.now) homes.now) }
+    requires moves { CanMove (registers_at site.now).scratch (home_moves (of_state names.now) homes.now) }
     ensures grows { OnOk result (OutputGrows output.old output.new) }
     ensures rows { OnOk result (output.new.rows ≡ output.old.rows) }
-    ensures moved { IfOk result (λ made. MovesToRegion plan.now output.new made (home_moves (of_state names.now) homes.now) region) }
+    ensures moved { IfOk result (λ made. MovesToRegion plan.now (registers_at site.now).scratch output.new made (home_moves (of_state names.now) homes.now) region) }
     ensures ways { IfOk result (λ made. EachCopy (IsOnTheWay plan.now (LeavesReached (made ∷ []))) output.old output.new) }
     ensures short { IfOk result (λ made. bytes_of (rows_of output.new.copies.items) + length (leaf_text made)
         ≤ bytes_of (rows_of output.old.copies.items) + (goto_bytes + passed_bytes * length homes.now)) }
 {
     let leaf = plan.leaf_to(region);
     let moves = home_moves(alloc, names, homes)?;
-    move_along(alloc, plan, moves.as_slice(), leaf, output)
+    let scratch = site.registers.scratch();
+    move_along(alloc, plan, scratch, moves.as_slice(), leaf, output)
 }

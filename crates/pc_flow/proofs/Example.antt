@@ -1,5 +1,5 @@
 -- A small graph, and what it does.
-use Rattle.std.proofs.Common.{◌≡◌, ℕ, zero, suc, List, [], ◌∷◌, Option, Some, None, refl, subst, arith}
+use Rattle.std.proofs.Common.{◌≡◌, ℕ, zero, suc, List, [], ◌∷◌, Some, None, refl, subst, arith}
 use Rattle.std.specs.Prelude.{ℤ, pos, slice_get}
 use Rattle.pc_word.specs.declared.item.Item.TheVariants.{Copy, Print}
 use Rattle.pc_word.specs.declared.item.Operand.TheVariants.{Name, Lit}
@@ -57,6 +57,8 @@ example-is = record {
   all_placed = refl;
   begins = omega arith;
   few_arrays = omega arith;
+  data_fit = tt;
+  data_words = λ place other h. absurd (omega (arith, h));
   loops_there = λ number loop e. absurd (no_loop number loop e);
   outer_first = λ loop mark e. absurd (cc);
   nodes_fit = nodes_fit;

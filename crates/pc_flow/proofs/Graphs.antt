@@ -1,6 +1,6 @@
 -- A graph in which one node was replaced.
-use Rattle.std.proofs.Common.{◌≡◌, ℕ, ◌<◌, ◌≤◌, ◌⊎◌, inl, inr, List, length, Option, Some, None, sym, ◌∙◌, subst}
-use Rattle.std.specs.Prelude.{slice_get, slice_set}
+use Rattle.std.proofs.Common.{◌≡◌, ℕ, ◌<◌, ◌≤◌, inl, inr, List, length, Option, Some, None, sym, ◌∙◌, subst}
+use Rattle.std.specs.Prelude.{slice_set}
 use Rattle.pc_word.proofs.Lists.{set_at, set_length}
 use Rattle.pc_word.specs.SourceLimits.{most_nodes}
 use Rattle.pc_flow.specs.declared.node.FlowNode.{FlowNode}
@@ -41,6 +41,8 @@ set_node_keeps flow at node is fits =
       all_placed = is.all_placed ∙ sym as_many;
       begins = subst (λ (n : ℕ). flow.entry < n) (sym as_many) is.begins;
       few_arrays = is.few_arrays;
+      data_fit = is.data_fit;
+      data_words = is.data_words;
       loops_there = is.loops_there;
       outer_first = is.outer_first;
       nodes_fit = λ number other e. node-renewed flow (slice_set flow.nodes at node) as_many number other
@@ -59,6 +61,8 @@ set_entry_keeps flow at is there = record {
   all_placed = is.all_placed;
   begins = there;
   few_arrays = is.few_arrays;
+  data_fit = is.data_fit;
+  data_words = is.data_words;
   loops_there = is.loops_there;
   outer_first = is.outer_first;
   nodes_fit = λ number node e. same_fits flow at number node (is.nodes_fit number node e);

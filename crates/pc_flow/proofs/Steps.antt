@@ -1,5 +1,5 @@
 -- Where one unit of a graph leads to.
-use Rattle.std.proofs.Common.{◌≡◌, ℕ, ◌<◌, Bool, true, false, List, [], ◌∷◌, Option, Some, None, refl, sym, ◌∙◌, ap, subst}
+use Rattle.std.proofs.Common.{◌≡◌, ℕ, ◌<◌, Bool, true, false, List, [], ◌∷◌, Option, Some, None, sym, ◌∙◌, ap, subst}
 use Rattle.std.specs.Prelude.{ℤ, if◌then◌else◌, slice_get, slice_index}
 use Rattle.pc_word.specs.declared.item.Item.{Item}
 use Rattle.pc_word.specs.declared.item.MachineFault.{MachineFault}
@@ -7,7 +7,7 @@ use Rattle.pc_word.specs.Word.{holds}
 use Rattle.pc_word.specs.Run.{Step, Goes, Stops}
 use Rattle.pc_word.specs.State.{State}
 use Rattle.pc_word.specs.Items.{operand_value}
-use Rattle.pc_word.specs.Commit.{fault_of, prints_of, state_after}
+use Rattle.pc_word.specs.Commit.{fault_of}
 use Rattle.pc_word.specs.Row.{commit_of}
 use Rattle.pc_flow.specs.declared.node.FlowNode.{FlowNode}
 use Rattle.pc_flow.specs.declared.node.FlowNode.TheVariants.{Op, Test, Stop, Trap}

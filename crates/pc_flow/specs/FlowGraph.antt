@@ -1,5 +1,5 @@
 -- The flow graph as plain data, and what every one keeps.
-use Rattle.std.specs.Prelude.{◌≡◌, ◌⊎◌, ℕ, ◌+◌, ◌<◌, ◌≤◌, List, length, Option, Some, None, IfSome, slice_get, slice_index}
+use Rattle.std.specs.Prelude.{◌≡◌, ◌⊎◌, ℕ, ℤ, ◌+◌, ◌<◌, ◌≤◌, List, All, length, Option, Some, None, IfSome, slice_get, slice_index}
 use Rattle.std.specs.List.{AllByRecursion}
 use Rattle.pc_word.specs.SourceLimits.{most_scalars, most_temporaries, most_nodes}
 use Rattle.pc_word.specs.MachineLimits.{most_arrays}
@@ -7,12 +7,14 @@ use Rattle.pc_word.specs.declared.item.Item.{Item}
 use Rattle.pc_word.specs.declared.item.Operand.{Operand}
 use Rattle.pc_word.specs.declared.item.Operand.TheVariants.{Name, Lit}
 use Rattle.pc_word.specs.declared.loop_mark.LoopMark.{LoopMark}
+use Rattle.pc_word.specs.Data.{AreData}
 use Rattle.pc_word.specs.Items.{operands_of, dest_of, array_of}
+use Rattle.pc_word.specs.Word.{IsWord}
 use Rattle.pc_flow.specs.declared.node.FlowNode.{FlowNode}
 use Rattle.pc_flow.specs.declared.node.FlowNode.TheVariants.{Op, Test, Stop, Trap}
 
--- a graph: its nodes by number, a rank and the innermost loop of each, the node where it begins, the loops, and the
--- lengths of its arrays
+-- a graph: its nodes by number, a rank and the innermost loop of each, the node where it begins, the loops, the lengths of
+-- its arrays, and the words with which each array begins
 pub record FlowGraph : Type 0 where
   pub nodes : List FlowNode
   pub ranks : List ℕ
@@ -20,6 +22,7 @@ pub record FlowGraph : Type 0 where
   pub entry : ℕ
   pub loops : List LoopMark
   pub arrays : List ℕ
+  pub initial : List (List ℤ)
 
 -- ---- names, arrays
 
@@ -78,6 +81,9 @@ pub record IsFlow (flow : FlowGraph) : Type 0 where
   pub all_placed : length flow.inside ≡ length flow.nodes
   pub begins : IsTarget flow flow.entry
   pub few_arrays : length flow.arrays ≤ most_arrays
+  -- there is a list of words for each array, which has room in it and does not end in 0
+  pub data_fit : AreData flow.arrays flow.initial
+  pub data_words : All (All IsWord) flow.initial
   -- each node is in a loop that there is, or in none
   pub loops_there : (node loop : ℕ) → slice_get flow.inside node ≡ Some (Some loop) → loop < length flow.loops
   -- the loop round a loop has a smaller number

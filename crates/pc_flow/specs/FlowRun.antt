@@ -33,13 +33,13 @@ run_node lengths s None = Stops [] Ended
 abbrev pub node_step : List FlowNode → List ℕ → FlowState → Step FlowState
 node_step nodes lengths here = run_node lengths here.state (slice_get nodes here.node)
 
--- the entry, with all variables and elements 0
-abbrev pub flow_start : ℕ → List ℤ → FlowState
-flow_start entry input = record { node = entry; state = start_state input }
+-- the entry, with all variables 0, on arrays that begin with these data
+abbrev pub flow_start : ℕ → List (List ℤ) → List ℤ → FlowState
+flow_start entry initial input = record { node = entry; state = start_state initial input }
 
--- the run of nodes with arrays of these lengths, from an entry, on an input: at most n nodes
-abbrev pub nodes_run : List FlowNode → List ℕ → ℕ → List ℤ → Run
-nodes_run nodes lengths entry input n = run_from (node_step nodes lengths) n (flow_start entry input)
+-- the run of nodes with arrays of these lengths, which begin with these data, from an entry, on an input: at most n nodes
+abbrev pub nodes_run : List FlowNode → List ℕ → List (List ℤ) → ℕ → List ℤ → Run
+nodes_run nodes lengths initial entry input n = run_from (node_step nodes lengths) n (flow_start entry initial input)
 
 -- one unit of a graph
 abbrev pub flow_step : FlowGraph → FlowState → Step FlowState
@@ -47,4 +47,4 @@ flow_step flow = node_step flow.nodes flow.arrays
 
 -- the run of a graph
 abbrev pub flow_run : FlowGraph → List ℤ → Run
-flow_run flow = nodes_run flow.nodes flow.arrays flow.entry
+flow_run flow = nodes_run flow.nodes flow.arrays flow.initial flow.entry

@@ -1,6 +1,6 @@
 -- Laws of the definitions. Each is the contract of a function of laws.rt, which does nothing.
-use Rattle.std.specs.Prelude.{◌≡◌, ◌<◌, ◌⊎◌, ℕ, ℤ, List, Option, Some, None, slice_get, slice_index}
-use Rattle.pc_word.specs.Run.{Step, Goes, Grows}
+use Rattle.std.specs.Prelude.{◌≡◌, ◌<◌, ℤ, List, Some, None, slice_get, slice_index}
+use Rattle.pc_word.specs.Run.{Goes, Grows}
 use Rattle.pc_flow.specs.declared.node.FlowNode.{FlowNode}
 use Rattle.pc_flow.specs.FlowGraph.{FlowGraph, IsFlow, IsTarget, tested_loop}
 use Rattle.pc_flow.specs.FlowRun.{FlowState, flow_step, flow_run}

@@ -3,12 +3,13 @@ ghost use Rattle.std.specs.Prelude.{◌≡◌, ◌<◌, Some, length, slice_get,
 ghost use Rattle.pc_flow.specs.FlowGraph.{FlowGraph, IsFlow, NodeFits, KeepsTurn};
 
 use crate::{FlowNode, FlowNodeList, InsideList, RankList};
-use pc_word::{LengthList, LoopList};
+use pc_word::{DataList, LengthList, LoopList};
 use std::marker::Model;
 
 /// A flow graph of 1 to 16,384 nodes.
 ///
-/// It keeps `IsFlow`: names are below 96; the entry, arrays and targets are there; a loop's outer
+/// It keeps `IsFlow`: names are below 96; the entry, arrays and targets are there; each array has a
+/// list of the words with which it begins, which has room in it and does not end in 0; a loop's outer
 /// loop has a smaller number; and each edge out of a node that is no loop's test leads to a smaller
 /// rank, so each cycle passes the test of a loop. No call here takes memory.
 #[derive(Debug, Drop)]
@@ -19,6 +20,7 @@ pub struct Flow {
     entry: u32,
     loops: LoopList,
     arrays: LengthList,
+    initial: DataList,
 }
 
 impl Model for Flow {
@@ -29,14 +31,14 @@ impl Model for Flow {
 
     ghost coded = { Prim.hlevel codes };
 
-    ghost view = { λ it. record { nodes = it.nodes; ranks = it.ranks; inside = it.inside; entry = it.entry; loops = it.loops; arrays = it.arrays } };
+    ghost view = { λ it. record { nodes = it.nodes; ranks = it.ranks; inside = it.inside; entry = it.entry; loops = it.loops; arrays = it.arrays; initial = it.initial } };
 
-    ghost invariant = { λ it. IsFlow (record { nodes = it.nodes; ranks = it.ranks; inside = it.inside; entry = it.entry; loops = it.loops; arrays = it.arrays }) };
+    ghost invariant = { λ it. IsFlow (record { nodes = it.nodes; ranks = it.ranks; inside = it.inside; entry = it.entry; loops = it.loops; arrays = it.arrays; initial = it.initial }) };
 }
 
 impl Flow {
     /// The graph with these parts: a rank and the innermost loop of each node stand in lists of the
-    /// nodes' length.
+    /// nodes' length, and the words with which each array begins in one list an array.
     pub fn new(
         nodes: FlowNodeList,
         ranks: RankList,
@@ -44,9 +46,10 @@ impl Flow {
         entry: u32,
         loops: LoopList,
         arrays: LengthList,
+        initial: DataList,
     ) -> Flow
-        requires { IsFlow (record { nodes = nodes; ranks = ranks; inside = inside; entry = entry; loops = loops; arrays = arrays }) }
-        ensures { result ≡ record { nodes = nodes; ranks = ranks; inside = inside; entry = entry; loops = loops; arrays = arrays } }
+        requires { IsFlow (record { nodes = nodes; ranks = ranks; inside = inside; entry = entry; loops = loops; arrays = arrays; initial = initial }) }
+        ensures { result ≡ record { nodes = nodes; ranks = ranks; inside = inside; entry = entry; loops = loops; arrays = arrays; initial = initial } }
     {
         Flow {
             nodes,
@@ -55,6 +58,7 @@ impl Flow {
             entry,
             loops,
             arrays,
+            initial,
         }
     }
 
@@ -109,6 +113,13 @@ impl Flow {
         ensures { result.now ≡ self.now.arrays }
     {
         &self.arrays
+    }
+
+    /// The words with which each array begins, by the array's number; it goes on with 0.
+    pub fn initial(&self) -> &DataList
+        ensures { result.now ≡ self.now.initial }
+    {
+        &self.initial
     }
 
     /// Lets the graph begin at another node.

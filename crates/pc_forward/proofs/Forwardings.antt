@@ -37,7 +37,8 @@ use Rattle.pc_forward.proofs.Below.{IsBelow, variable_below, variable_value}
 use Rattle.pc_forward.proofs.Noting.{one_is_edge}
 use Rattle.pc_forward.proofs.OwnForms.{own_length, own_at}
 use Rattle.pc_forward.proofs.Stepping.{holds_behind, forwarded_does}
-use Rattle.pc_forward.proofs.Telling.{WordsIn, zero_word, words_behind, IsKept, kept_behind, Holds}
+use Rattle.pc_forward.proofs.Starts.{start_words}
+use Rattle.pc_forward.proofs.Telling.{WordsIn, words_behind, IsKept, kept_behind, Holds}
 
 -- ---- where a trail begins
 
@@ -67,9 +68,6 @@ first_holds lengths s words = record {
     elements = λ array index value h. absurd (none_there h.latest.place h.access h.latest.there);
   };
 }
-
-start_words : (input : List ℤ) → All IsWord input → WordsIn (start_state input)
-start_words input all = record { names = λ x. zero_word; cells = λ array place. zero_word; input = all }
 
 -- ---- what becomes of a node
 
@@ -365,17 +363,18 @@ module _ (flow : FlowGraph) (plan : Plan) (is : IsForwarding flow plan) where
   became_becomes at node made reached there stands (inl w) = node_becomes at node made w.0 reached there stands w.1 w.2 w.3
   became_becomes at node made reached there stands (inr end) = subst (Becomes change at node) (sym end.0) (end_becomes at node end.1)
 
-  entry_known : (input : List ℤ) → All IsWord input → (at : ℕ) → at ≡ flow.entry → Known at (start_state input)
-  entry_known input all at e = record { words = start_words input all; holds = λ trail along. by at trail e along }
+  entry_known : (input : List ℤ) → All IsWord input → (at : ℕ) → at ≡ flow.entry → Known at (start_state flow.initial input)
+  entry_known input all at e = record { words = start_words flow.initial input is.is_flow.data_words all; holds = λ trail along. by at trail e along }
     where
-      by : (at : ℕ) (trail : Trail) → at ≡ flow.entry → Along flow plan.nodes at trail → Holds flow.arrays trail (start_state input)
-      by _ _ e (Begins none) = first_holds flow.arrays (start_state input) (start_words input all)
+      by : (at : ℕ) (trail : Trail) → at ≡ flow.entry → Along flow plan.nodes at trail → Holds flow.arrays trail (start_state flow.initial input)
+      by _ _ e (Begins none) = first_holds flow.arrays (start_state flow.initial input) (start_words flow.initial input is.is_flow.data_words all)
       by _ _ e (Goes_on way there before) = absurd (way.not_entry e)
 
   is_change : IsChange change
   is_change = record {
     is_flow = is.is_flow;
     same_arrays = refl;
+    same_initial = refl;
     begins = subst (LeadsPast no_skip flow.entry) (sym is.entry) (leads_there flow.entry);
     known_first = λ input words. entry_known input words flow.entry refl;
     skips = λ at next reached h. absurd h;
@@ -392,6 +391,7 @@ module _ (flow : FlowGraph) (plan : Plan) (is : IsForwarding flow plan) where
     same_loops = refl;
     same_inside = refl;
     same_arrays = refl;
+    same_initial = refl;
   }
 
   -- ---- the plan fits

@@ -5,6 +5,7 @@ pub mod GoingOn
 pub mod Holders
 pub mod Noting
 pub mod OwnForms
+pub mod Starts
 pub mod Stepping
 pub mod Telling
 pub mod Walks

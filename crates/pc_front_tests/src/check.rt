@@ -51,14 +51,39 @@ fn numbers_names(rt: HostRuntime) -> Result<(), Fail> {
     Ok(())
 }
 
+#[test]
+fn keeps_initial_values(rt: HostRuntime) -> Result<(), Fail> {
+    let alloc = rt.alloc();
+    let text =
+        "int main(void){static int a[4]={5,-6,0,0};int b[1];{static int a[2]={0},c[3]={0,7,};}}";
+    let program = program_of(alloc, text)?;
+    let checked = check(alloc, &program)?;
+    let initial = format!(in alloc; "{:?}", checked.initial)?;
+    assert_eq!(rt; checked.arrays.as_slice(), [4, 1, 2, 3].as_slice());
+    assert_eq!(rt;
+        initial.as_str(),
+        "Seq { items: [Seq { items: [5, -6] }, Seq { items: [] }, Seq { items: [] }, Seq { items: [0, 7] }] }"
+    );
+    Ok(())
+}
+
 /// Bodies of programs on line 2, and the first fault of each.
-const FAULTS: [(&str, CheckError); 3] = [
+const FAULTS: [(&str, CheckError); 6] = [
     ("break;int x=read();", CheckError::OutsideLoop { line: 2 }),
     ("int x=y;break;", CheckError::Undeclared { line: 2 }),
     (
         "int x;{int x;}\nint x;x[0]=1;",
         CheckError::Redeclared { line: 3 },
     ),
+    (
+        "static int a[2]={1,2,3};",
+        CheckError::TooManyValues { line: 2 },
+    ),
+    (
+        "static int a[1]={1,\n0};break;",
+        CheckError::TooManyValues { line: 3 },
+    ),
+    ("static int a[0]={1};", CheckError::BadSize { line: 2 }),
 ];
 
 /// The first fault of a program with this body, if it has one.

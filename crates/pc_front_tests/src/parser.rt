@@ -29,7 +29,7 @@ fn refusal_of(alloc: Global, text: &str) -> Result<(u32, u32, bool), Fail> {
 }
 
 /// Each pair is one program (C17 6.5 and 6.8): parentheses and unary `+` leave no node.
-static SAME: [(&str, &str); 38] = [
+static SAME: [(&str, &str); 41] = [
     ("x=a||b&&c;", "x=(a||(b&&c));"),
     ("x=a&&b|c;", "x=(a&&(b|c));"),
     ("x=a|b^c;", "x=(a|(b^c));"),
@@ -67,6 +67,9 @@ static SAME: [(&str, &str); 38] = [
     ("print(a);", "print((a));"),
     ("return a;", "return (a);"),
     ("int x=a,y;", "int x=(a);int y;"),
+    ("static int a[2];", "int a[2];"),
+    ("static int a[2]={1,-2,};", "static int a[2]={1,-2};"),
+    ("static int a[2],b[1]={1};", "int a[2];static int b[1]={1};"),
     (
         "for(int i=0;i<3;i++)x=i;",
         "for(int i=(0);(i<3);i+=1)x=(i);",
@@ -74,7 +77,7 @@ static SAME: [(&str, &str); 38] = [
 ];
 
 /// Programs that differ.
-static DIFFERENT: [(&str, &str); 12] = [
+static DIFFERENT: [(&str, &str); 14] = [
     ("x=a-b-c;", "x=a-(b-c);"),
     ("b;c;x=a?b:c;", "b;c;x=a?c:b;"),
     ("x+=1;", "x-=1;"),
@@ -87,10 +90,12 @@ static DIFFERENT: [(&str, &str); 12] = [
     ("while(a)b;", "do b;while(a);"),
     ("break;", "continue;"),
     ("for(;a;)b;", "for(;;a)b;"),
+    ("static int a[1]={1};", "static int a[1]={-1};"),
+    ("static int a[1]={0};", "static int a[1];"),
 ];
 
 /// Texts that end or go wrong at each kind of place, with that place.
-static WRONG: [(&str, u32); 60] = [
+static WRONG: [(&str, u32); 74] = [
     ("", 0),
     ("void", 0),
     ("int", 1),
@@ -151,6 +156,20 @@ static WRONG: [(&str, u32); 60] = [
     ("int main(){for(;", 8),
     ("int main(){for(;;;", 9),
     ("int main(){return;", 6),
+    ("int main(){static x", 6),
+    ("int main(){static int", 7),
+    ("int main(){static int x;", 8),
+    ("int main(){static int x[1]=1", 12),
+    ("int main(){static int x[1]={}", 13),
+    ("int main(){static int x[1]={+1", 13),
+    ("int main(){static int x[1]={-x", 14),
+    ("int main(){static int x[1]={1 2", 14),
+    ("int main(){static int x[1]={1,,", 15),
+    ("int main(){static int x[1]={1,}}", 16),
+    ("int main(){static int x[1]={1}={1}", 15),
+    ("int main(){for(static", 7),
+    ("int main(){if(1)static", 9),
+    ("int main(){int a[2]={1};}", 10),
 ];
 
 #[test]
@@ -203,6 +222,41 @@ fn semicolons(alloc: Global, front: &str, count: usize, back: &str) -> Result<St
     Ok(text)
 }
 
+/// A program with so many blocks, one inside of the other, and items in the innermost.
+fn blocks(alloc: Global, count: usize, items: &str) -> Result<String, Fail> {
+    let mut text = String::from_str(alloc, "int main(){")?;
+    for _ in 0..count {
+        text.push_str("{")?;
+    }
+    text.push_str(items)?;
+    for _ in 0..count {
+        text.push_str("}")?;
+    }
+    text.push_str("}")?;
+    Ok(text)
+}
+
+#[test]
+fn heights_of_static_arrays(rt: HostRuntime) -> Result<(), Fail> {
+    let alloc = rt.alloc();
+    let highest = blocks(alloc, 254, "static int a[1]={-1};")?;
+    assert_eq!(rt; refusal_of(alloc, highest.as_str())?, (0, 0, false));
+    let higher = blocks(alloc, 255, "static int a[1]={-1};")?;
+    assert_eq!(rt; refusal_of(alloc, higher.as_str())?, (260, 1, true));
+    Ok(())
+}
+
+#[test]
+fn lines_of_constants(rt: HostRuntime) -> Result<(), Fail> {
+    let tree = tree_of(rt.alloc(), "static int a[2]={\n7,\n-\n2147483647};")?;
+    assert!(rt; tree.as_str().contains("Const { line: 2, value: 7 }"));
+    assert!(rt;
+        tree.as_str()
+            .contains("Const { line: 3, value: -2147483647 }")
+    );
+    Ok(())
+}
+
 #[test]
 fn limits(rt: HostRuntime) -> Result<(), Fail> {
     let alloc = rt.alloc();
@@ -228,7 +282,8 @@ fn limits(rt: HostRuntime) -> Result<(), Fail> {
 /// A program with statements and expressions of most kinds.
 const COPIED: &str = "int main(void){int a[100];int b[100];int i;int s=0;int x=read();\n\
     for(i=0;i<100;i++){a[i]=i;b[i]=i+1;}\nfor(i=0;i<100;i++)s=s+a[i]*b[i];\n\
-    while(x){if(x)print(-x*2);else break;do;while(x&&s||!i);if(s?x:i)continue;}\nprint(s);return 0;}";
+    while(x){if(x)print(-x*2);else break;do;while(x&&s||!i);if(s?x:i)continue;}\nprint(s);return 0;\n\
+    static int c[4]={1,-2};}";
 
 #[test]
 fn copies(rt: HostRuntime) -> Result<(), Fail> {

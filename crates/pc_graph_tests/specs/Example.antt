@@ -25,4 +25,5 @@ example = record {
   entry = 0;
   loops = record { line = 1; header = 6; outer = None } ∷ [];
   arrays = [];
+  initial = [];
 }

@@ -7,7 +7,9 @@ use pc_flow::{Flow, FlowNode, FlowNodeList, InsideList, RankList};
 use pc_lexer::tokens;
 use pc_lower::{LowerError, lower};
 use pc_parser::parse;
-use pc_word::{Item, LengthList, LoopList, LoopMark, MOST_SOURCE, MOST_TOKENS, OpCode, Operand};
+use pc_word::{
+    DataList, Item, LengthList, LoopList, LoopMark, MOST_SOURCE, MOST_TOKENS, OpCode, Operand,
+};
 use std::alloc::Global;
 use std::test::Fail;
 
@@ -34,6 +36,7 @@ pub(crate) fn stop(alloc: Global) -> Result<Flow, Fail> {
         0,
         LoopList::new(alloc),
         LengthList::new(alloc),
+        DataList::new(alloc),
     ))
 }
 
@@ -107,5 +110,13 @@ pub(crate) fn example(alloc: Global) -> Result<Flow, Fail>
         outer: None,
     };
     let loops = LoopList::from_slice(alloc, &[mark])?;
-    Ok(Flow::new(nodes, ranks, inside, 0, loops, LengthList::new(alloc)))
+    Ok(Flow::new(
+        nodes,
+        ranks,
+        inside,
+        0,
+        loops,
+        LengthList::new(alloc),
+        DataList::new(alloc),
+    ))
 }

@@ -35,6 +35,26 @@ fn headers_begin_turns(rt: HostRuntime) -> Result<(), Fail> {
     Ok(())
 }
 
+/// Two static arrays, of which one begins with two words that are not 0.
+const STATIC: &[u8] =
+    b"int main(void){static int a[4]={5,-6,0,0};static int b[2]={0};print(a[0]+b[1]);}";
+
+/// Whether the graph of a source has two arrays, which begin with these words.
+fn begin_with(alloc: Global, text: &[u8], one: &[i32], other: &[i32]) -> Result<bool, Fail> {
+    let flow = lowered(alloc, text)?;
+    match flow.initial().as_slice() {
+        [first, second] => Ok(first.as_slice() == one && second.as_slice() == other),
+        _ => Ok(false),
+    }
+}
+
+#[test]
+fn arrays_begin_with_their_data(rt: HostRuntime) -> Result<(), Fail> {
+    let words: &[i32] = &[5, -6];
+    assert!(rt; begin_with(rt.alloc(), STATIC, words, &[])?);
+    Ok(())
+}
+
 /// The numbers to which a node's edges lead, and the greatest where it has none.
 fn edges(node: FlowNode) -> (u32, u32) {
     match node {

@@ -5,7 +5,7 @@ ghost use Rattle.pc_graph_tests.specs.Example.{example};
 use pc_flow::{Flow, FlowNode, FlowNodeList, InsideList, RankList};
 use pc_pass::Pass;
 use pc_scalar::{Copies, Dead, Fold, Values};
-use pc_word::{Item, LengthList, LoopList, LoopMark, OpCode, Operand};
+use pc_word::{DataList, Item, LengthList, LoopList, LoopMark, OpCode, Operand};
 use std::alloc::Global;
 use std::test::Fail;
 
@@ -90,7 +90,15 @@ fn example(alloc: Global) -> Result<Flow, Fail>
         outer: None,
     };
     let loops = LoopList::from_slice(alloc, &[mark])?;
-    Ok(Flow::new(nodes, ranks, inside, 0, loops, LengthList::new(alloc)))
+    Ok(Flow::new(
+        nodes,
+        ranks,
+        inside,
+        0,
+        loops,
+        LengthList::new(alloc),
+        DataList::new(alloc),
+    ))
 }
 
 /// Whether the nodes of a graph are those of the example but for these.

@@ -24,7 +24,7 @@ mutual
   pub loops_sized : (s : SourceStatement) → loop_count s ≤ statement_size s
   loops_sized (Scope items) = list-loops_sized items
   loops_sized (ScalarDeclaration name line initial) = omega arith
-  loops_sized (ArrayDeclaration name line at size) = omega arith
+  loops_sized (ArrayDeclaration name line at size values) = omega arith
   loops_sized (Assignment name line index bracket op at value) = omega arith
   loops_sized (Printing line value) = omega arith
   loops_sized (Evaluation line value) = omega arith
@@ -97,7 +97,7 @@ module _ (a n : ℕ) (le : a ≤ most_scalars) where
         both (nat_lt number a) (few && optional_has_slots a n initial) (nat_lt number most_scalars) (few && optional_has_slots most_scalars n initial)
         (below_more number a most_scalars le)
         (both few (optional_has_slots a n initial) few (optional_has_slots most_scalars n initial) (λ i. i) (optional_more initial)) h
-    sound_more l (ArrayDeclaration number line at size) h = h
+    sound_more l (ArrayDeclaration number line at size values) h = h
     sound_more l (Assignment number line index bracket op at value) h =
         let few = nat_le (assignment_need index op value) most_temporaries in
         both (has_target a n index number) (few && (optional_has_slots a n index && has_slots a n value))

@@ -7,6 +7,7 @@ use Rattle.pc_word.proofs.Truth.{and_true}
 use Rattle.std.proofs.lemmas.Bool.Decides.{nat_tests}
 use Rattle.pc_syntax.specs.declared.statement.Stmt.{Stmt}
 use Rattle.pc_syntax.specs.declared.operator.BinaryOp.{BinaryOp}
+use Rattle.pc_syntax.specs.declared.constant.Const.{Const}
 use Rattle.pc_syntax.specs.Source.{SourceExpression, SourceStatement, Scope, ScalarDeclaration, ArrayDeclaration, Assignment, Printing, Evaluation}
 use Rattle.pc_syntax.specs.Source.{Branch, WhileLoop, DoLoop, ForLoop, BreakOut, ContinueOn, ReturnFrom, Nothing, OptionalStatement, Absent, Present}
 use Rattle.pc_syntax.specs.Source.{SourceList, No_more, More}
@@ -186,11 +187,11 @@ module _ (d : Draft) (to : ℕ) (inside : Option ℕ) (ends b' c' r q : ℕ) whe
   unfolding statement_size
   lays_continue line = lays_nothing d to (StatementNodes (ContinueOn line) inside ends to to b' c' r c' q) (λ final. record { is = λ k n marked. (refl, refl) })
 
-  pub lays_array : (name line at size : ℕ) → LaysLoops d d (statement_size (ArrayDeclaration name line at size)) to to
-      (IsOwn (loop_count (ArrayDeclaration name line at size)) ends) (StatementNodes (ArrayDeclaration name line at size) inside ends to to b' c' r q q)
+  pub lays_array : (name line at size : ℕ) (values : List Const) → LaysLoops d d (statement_size (ArrayDeclaration name line at size values)) to to
+      (IsOwn (loop_count (ArrayDeclaration name line at size values)) ends) (StatementNodes (ArrayDeclaration name line at size values) inside ends to to b' c' r q q)
   unfolding statement_size
-  lays_array name line at size =
-      lays_nothing d to (StatementNodes (ArrayDeclaration name line at size) inside ends to to b' c' r q q) (λ final. record { is = λ k n marked. (refl, refl) })
+  lays_array name line at size values =
+      lays_nothing d to (StatementNodes (ArrayDeclaration name line at size values) inside ends to to b' c' r q q) (λ final. record { is = λ k n marked. (refl, refl) })
 
   pub lays_empty : LaysLoops d d (statement_size Nothing) to to (IsOwn (loop_count Nothing) ends) (StatementNodes Nothing inside ends to to b' c' r q q)
   unfolding statement_size

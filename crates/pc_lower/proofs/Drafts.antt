@@ -1,6 +1,6 @@
 -- A draft in which a node was placed.
 use Rattle.std.proofs.Common.{◌≡◌, ◌≢◌, ℕ, zero, suc, ◌+◌, ◌<◌, ◌≤◌, ◌⊎◌, inl, inr, List, length, replicate, Option, Some, None, refl, sym, ◌∙◌, ap, subst, arith}
-use Rattle.std.specs.Prelude.{IfSome, slice_get, slice_set, slice_index}
+use Rattle.std.specs.Prelude.{ℤ, IfSome, slice_get, slice_set, slice_index}
 use Rattle.std.proofs.lemmas.List.{length-replicate}
 use Rattle.pc_word.specs.declared.item.Operand.{Operand}
 use Rattle.pc_word.specs.declared.loop_mark.LoopMark.{LoopMark}
@@ -158,6 +158,8 @@ module _ (draft : Draft) (at : ℕ) (node : FlowNode) (inside : Option ℕ) (kee
       all_placed = set_length old.inside at inside ∙ keeps.flow.all_placed ∙ sym as_many;
       begins = target-with old.entry keeps.flow.begins;
       few_arrays = keeps.flow.few_arrays;
+      data_fit = keeps.flow.data_fit;
+      data_words = keeps.flow.data_words;
       loops_there = loops-with;
       outer_first = keeps.flow.outer_first;
       nodes_fit = fits-with;
@@ -258,6 +260,8 @@ module _ (draft : Draft) (number header : ℕ) (keeps : IsDraft draft) where
       all_placed = keeps.flow.all_placed;
       begins = keeps.flow.begins;
       few_arrays = keeps.flow.few_arrays;
+      data_fit = keeps.flow.data_fit;
+      data_words = keeps.flow.data_words;
       loops_there = λ node loop e. turn-headed loop (keeps.flow.loops_there node loop e);
       outer_first = outer-headed;
       nodes_fit = λ from one e. fits-headed from one (keeps.flow.nodes_fit from one e);
@@ -283,10 +287,10 @@ zero_at (suc n) zero = refl
 zero_at (suc n) (suc i) = zero_at n i
 
 -- a draft of which nothing is placed is one
-pub first_keeps : (count : ℕ) (loops : List LoopMark) (arrays : List ℕ) → MayBegin count loops arrays → IsDraft (first_draft count loops arrays)
-first_keeps count loops arrays may =
+pub first_keeps : (count : ℕ) (loops : List LoopMark) (arrays : List ℕ) (initial : List (List ℤ)) → MayBegin count loops arrays initial → IsDraft (first_draft count loops arrays initial)
+first_keeps count loops arrays initial may =
     let as_many = length-replicate count Stop in
-    let graph = (first_draft count loops arrays).graph in
+    let graph = (first_draft count loops arrays initial).graph in
     record {
       flow = record {
         some_nodes = subst (λ (n : ℕ). 1 ≤ n) (sym as_many) may.some_nodes;
@@ -295,6 +299,8 @@ first_keeps count loops arrays may =
         all_placed = length-replicate count None ∙ sym as_many;
         begins = subst (λ (n : ℕ). 0 < n) (sym as_many) may.some_nodes;
         few_arrays = may.few_arrays;
+        data_fit = may.data_fit;
+        data_words = may.data_words;
         loops_there = λ number loop e. absurd (none_some (replicate_at count number None (Some loop) e));
         outer_first = may.outer_first;
         nodes_fit = λ number node e. subst (NodeFits graph number) (sym (replicate_at count number Stop node e)) tt;

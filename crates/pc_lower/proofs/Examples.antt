@@ -38,7 +38,7 @@ halving_nodes =
 
 -- they stand in no loop
 abbrev halving_graph : FlowGraph
-halving_graph = record { nodes = halving_nodes; ranks = []; inside = replicate 11 None; entry = 10; loops = []; arrays = [] }
+halving_graph = record { nodes = halving_nodes; ranks = []; inside = replicate 11 None; entry = 10; loops = []; arrays = []; initial = [] }
 
 -- a node that stands in a loop or in none
 placed : (graph : FlowGraph) {p : ℕ} {node : FlowNode} {loop : Option ℕ} → slice_get graph.nodes p ≡ Some node → slice_get graph.inside p ≡ Some loop
@@ -69,11 +69,11 @@ halving_lowered =
       );
     }
 
-halving_runs : nodes_run halving_nodes [] 10 (pos 8 ∷ []) 9 ≡ record { printed = pos 5 ∷ []; end = Some Ended }
+halving_runs : nodes_run halving_nodes [] [] 10 (pos 8 ∷ []) 9 ≡ record { printed = pos 5 ∷ []; end = Some Ended }
 unfolding word_add word_div int_wrap
 halving_runs = refl
 
-halving_traps : nodes_run halving_nodes [] 10 [] 3 ≡ record { printed = []; end = Some (Trapped EndOfInput 1) }
+halving_traps : nodes_run halving_nodes [] [] 10 [] 3 ≡ record { printed = []; end = Some (Trapped EndOfInput 1) }
 halving_traps = refl
 
 -- `int main(void) { do break; while (0); }` has one test, and passes no node
@@ -89,6 +89,7 @@ breaking_graph = record {
   entry = 0;
   loops = record { line = 1; header = 1; outer = None } ∷ [];
   arrays = [];
+  initial = [];
 }
 
 breaking_lowered : Lowers breaking_graph breaking
@@ -111,6 +112,7 @@ waiting_graph inside = record {
   entry = 1;
   loops = record { line = 1; header = 1; outer = None } ∷ [];
   arrays = [];
+  initial = [];
 }
 
 waiting_lowered : Lowers (waiting_graph (None ∷ Some 0 ∷ [])) waiting

@@ -46,6 +46,7 @@ module _ (a b c : Draft) (from mid to : ℕ) (First Second Mine : ℕ → Type 0
         as_many_loops = earlier.as_many_loops ∙ later.as_many_loops;
         same_loops = earlier.same_loops ∙ later.same_loops;
         arrays = earlier.arrays ∙ later.arrays;
+        initial = earlier.initial ∙ later.initial;
         nodes_kept = λ i h. earlier.nodes_kept i (outside_earlier from mid to i f h) ∙ later.nodes_kept i (outside_later from mid to i g h f);
         inside_kept = λ i h. earlier.inside_kept i (outside_earlier from mid to i f h) ∙ later.inside_kept i (outside_later from mid to i g h f);
         loops_kept = λ loop h. earlier.loops_kept loop (λ own. h (second loop own)) ∙ later.loops_kept loop (λ own. h (first loop own));
@@ -112,6 +113,7 @@ lays_wider Wider l f =
         as_many_loops = fills.as_many_loops;
         same_loops = fills.same_loops;
         arrays = fills.arrays;
+        initial = fills.initial;
         nodes_kept = fills.nodes_kept;
         inside_kept = fills.inside_kept;
         loops_kept = λ loop h. fills.loops_kept loop (λ own. h (f loop own));

@@ -157,7 +157,7 @@ mutual
       → Ordered loops (with_loops s outer loops)
   ordered (Scope items) outer loops h inside = list-ordered items outer loops h inside
   ordered (ScalarDeclaration name line initial) outer loops h inside = record { longer = omega arith; first = h }
-  ordered (ArrayDeclaration name line at size) outer loops h inside = record { longer = omega arith; first = h }
+  ordered (ArrayDeclaration name line at size values) outer loops h inside = record { longer = omega arith; first = h }
   ordered (Assignment name line index bracket op at value) outer loops h inside = record { longer = omega arith; first = h }
   ordered (Printing line value) outer loops h inside = record { longer = omega arith; first = h }
   ordered (Evaluation line value) outer loops h inside = record { longer = omega arith; first = h }

@@ -45,6 +45,7 @@ module _ (a b c : Draft) (from mid to : ℕ) (Mine : ℕ → Type 0) (front : Fi
         as_many_loops = back.as_many_loops ∙ front.as_many_loops;
         same_loops = back.same_loops ∙ front.same_loops;
         arrays = back.arrays ∙ front.arrays;
+        initial = back.initial ∙ front.initial;
         nodes_kept = λ i h. back.nodes_kept i (outside-back i h) ∙ front.nodes_kept i (outside-front i h);
         inside_kept = λ i h. back.inside_kept i (outside-back i h) ∙ front.inside_kept i (outside-front i h);
         loops_kept = λ loop h. back.loops_kept loop h ∙ front.loops_kept loop (λ none. none);
@@ -67,6 +68,7 @@ module _ (a c : Draft) (from to at : ℕ) (node : FlowNode) (own header : ℕ) (
     as_many_loops = header_length c.graph.loops own header ∙ fills.as_many_loops;
     same_loops = loops_with_header c.graph.loops own header ∙ fills.same_loops;
     arrays = fills.arrays;
+    initial = fills.initial;
     nodes_kept = λ i h. set_elsewhere c.graph.nodes at i node (elsewhere i h) ∙ fills.nodes_kept i h;
     inside_kept = fills.inside_kept;
     loops_kept = λ loop h. header_elsewhere c.graph.loops own header loop (λ e. h (inl e)) ∙ fills.loops_kept loop (λ mine. h (inr mine));

@@ -45,7 +45,7 @@ mutual
   pub adds_loops : (s : SourceStatement) (outer : Option ℕ) (loops : List SourceLoop) → Adds loops (with_loops s outer loops) (loop_count s)
   adds_loops (Scope items) outer loops = adds_list_loops items outer loops
   adds_loops (ScalarDeclaration name line initial) outer loops = adds_none loops
-  adds_loops (ArrayDeclaration name line at size) outer loops = adds_none loops
+  adds_loops (ArrayDeclaration name line at size values) outer loops = adds_none loops
   adds_loops (Assignment name line index bracket op at value) outer loops = adds_none loops
   adds_loops (Printing line value) outer loops = adds_none loops
   adds_loops (Evaluation line value) outer loops = adds_none loops

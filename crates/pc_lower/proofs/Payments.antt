@@ -215,7 +215,7 @@ mutual
   execute-paid lengths w (source.Scope items) le s = execute_list-paid lengths w items le s
   execute-paid lengths w (source.ScalarDeclaration name line initial) le s =
       kept-paid w 0 s.turns (declare lengths name initial s) (declaration_trace lengths initial s) (declare-keeps lengths name initial s)
-  execute-paid lengths w (source.ArrayDeclaration name line at length) le s = nothing-paid w s
+  execute-paid lengths w (source.ArrayDeclaration name line at length values) le s = nothing-paid w s
   execute-paid lengths w (source.Assignment name line index bracket op at value) le s =
       kept-paid w 0 s.turns (assignment lengths name line index bracket op at value s) (assignment_trace lengths name line index op at value s)
       (assignment-keeps lengths name line index bracket op at value s)

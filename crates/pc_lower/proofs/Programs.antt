@@ -3,6 +3,7 @@ use Rattle.std.proofs.Common.{◌≡◌, ℕ, suc, ◌+◌, ◌<◌, ◌≤◌, 
 use Rattle.std.specs.Prelude.{ℤ, slice_get}
 use Rattle.pc_word.specs.declared.item.End.{End}
 use Rattle.pc_word.specs.declared.item.End.TheVariants.{Ended}
+use Rattle.pc_word.specs.Data.{first_cells}
 use Rattle.pc_word.specs.Run.{Seen, Run, Agree, Answers, Step, Goes, Stops, after_printing, seen_of, run_from, At, reach, reached_of, reached_after}
 use Rattle.pc_word.proofs.Runs.{Answers-equal, run_from-answers, run_from-ended, run_from-at}
 use Rattle.pc_syntax.specs.Source.{ResolvedProgram}
@@ -74,25 +75,25 @@ Comes-walked nodes lengths (k ∷ ks) out f P p =
 -- ---- programs
 
 -- a flow that implements a program follows it from the start
-program-comes : (flow : FlowGraph) (program : ResolvedProgram) → flow.arrays ≡ program.arrays → (lowers : Lowers flow program.body) (input : List ℤ) (n : ℕ)
-    → Comes flow.nodes program.arrays (trace_of program input n) [] (flow_start flow.entry input)
+program-comes : (flow : FlowGraph) (program : ResolvedProgram) → flow.arrays ≡ program.arrays → flow.initial ≡ program.initial → (lowers : Lowers flow program.body) (input : List ℤ) (n : ℕ)
+    → Comes flow.nodes program.arrays (trace_of program input n) [] (flow_start flow.entry flow.initial input)
     (Finished flow.nodes lowers.last lowers.last lowers.last (outcome_of program input n))
 unfolding outcome_of trace_of
-program-comes flow program same lowers input n =
+program-comes flow program same same_data lowers input n =
     let last = lowers.last in
-    let start = source_start input n in
-    let here = flow_start flow.entry input in
+    let start = source_start program.initial input n in
+    let here = flow_start flow.entry flow.initial input in
     subst (λ (arrays : List ℕ). Comes flow.nodes arrays (list_trace arrays program.body start) [] here
     (Finished flow.nodes last last last (execute_list arrays program.body start))) same
     (list-comes flow last lowers.stops.there program.body None 0 lowers.first last last last flow.entry last lowers.body start [] here refl
-    (record { scalars = λ x h. refl; cells = λ a i. refl; input = refl; printed = refl }))
+    (record { scalars = λ x h. refl; cells = λ a i. ap (λ (initial : List (List ℤ)). first_cells initial a i) same_data; input = refl; printed = refl }))
 
 -- the nodes that it passes first are those of the trace
 pub lowered_runs_pass_the_trace : LoweredRunsPassTheTrace
-lowered_runs_pass_the_trace flow program same lowers input n =
-    let walked = Comes-walked flow.nodes program.arrays (trace_of program input n) [] (flow_start flow.entry input)
-    (Finished flow.nodes lowers.last lowers.last lowers.last (outcome_of program input n)) (program-comes flow program same lowers input n) in
-    subst (λ (arrays : List ℕ). kinds_from flow.nodes arrays (length (trace_of program input n)) (flow_start flow.entry input) ≡ trace_of program input n)
+lowered_runs_pass_the_trace flow program same same_data lowers input n =
+    let walked = Comes-walked flow.nodes program.arrays (trace_of program input n) [] (flow_start flow.entry flow.initial input)
+    (Finished flow.nodes lowers.last lowers.last lowers.last (outcome_of program input n)) (program-comes flow program same same_data lowers input n) in
+    subst (λ (arrays : List ℕ). kinds_from flow.nodes arrays (length (trace_of program input n)) (flow_start flow.entry flow.initial input) ≡ trace_of program input n)
     (sym same) walked.kinds
 
 -- where a flow that has followed a program is: at the end or a trap, or on its way
@@ -147,26 +148,26 @@ closed-matches nodes lengths n f g out seen None h r c = record {
 }
 
 -- the source, for any number of turns
-source-matches : (flow : FlowGraph) (program : ResolvedProgram) → flow.arrays ≡ program.arrays → Lowers flow program.body → (input : List ℤ) (n : ℕ)
-    → Matches (nodes_run flow.nodes program.arrays flow.entry input) (source_run program input n) (length (trace_of program input n))
+source-matches : (flow : FlowGraph) (program : ResolvedProgram) → flow.arrays ≡ program.arrays → flow.initial ≡ program.initial → Lowers flow program.body → (input : List ℤ) (n : ℕ)
+    → Matches (nodes_run flow.nodes program.arrays flow.initial flow.entry input) (source_run program input n) (length (trace_of program input n))
 unfolding source_run
-source-matches flow program same lowers input n =
+source-matches flow program same same_data lowers input n =
     let x = outcome_of program input n in
-    let here = flow_start flow.entry input in
+    let here = flow_start flow.entry flow.initial input in
     let w = Comes-walked flow.nodes program.arrays (trace_of program input n) [] here (Finished flow.nodes lowers.last lowers.last lowers.last x)
-    (program-comes flow program same lowers input n) in
+    (program-comes flow program same same_data lowers input n) in
     closed-matches flow.nodes program.arrays (length (trace_of program input n)) here w.there w.more (shown x) (shown x).end refl w.reached
     (finished-closed flow.nodes program.arrays lowers.last lowers.stops.there x w.more w.there w.reason)
 
 -- so it keeps pace with the trace
 pub lowered_runs_keep_pace : LoweredRunsKeepPace
-lowered_runs_keep_pace flow program same lowers input n =
-    let start = flow_start flow.entry input in
+lowered_runs_keep_pace flow program same same_data lowers input n =
+    let start = flow_start flow.entry flow.initial input in
     let most = suc (length (trace_of program input n)) in
     let step = node_step flow.nodes program.arrays in
-    let here = source-matches flow program same lowers input n in
+    let here = source-matches flow program same same_data lowers input n in
     let paced = subst (λ (x : Seen). Answers x (run_from step most start) x.end) (sym here.same) (run_from-answers step here.units most start here.limited) in
-    subst (λ (arrays : List ℕ). Answers (source_run program input n) (nodes_run flow.nodes arrays flow.entry input most) (source_run program input n).end) (sym same) paced
+    subst (λ (arrays : List ℕ). Answers (source_run program input n) (nodes_run flow.nodes arrays flow.initial flow.entry input most) (source_run program input n).end) (sym same) paced
 
 -- ---- enough turns
 
@@ -190,9 +191,9 @@ unfolding source_run outcome_of trace_of
 enough_turns program input m e =
     let w = dos_list program.body in
     let n = cost w m in
-    let k = length (list_trace program.arrays program.body (source_start input n)) in
-    let paid = execute_list-paid program.arrays w program.body (omega arith) (source_start input n) in
-    let none = spent (execute_list program.arrays program.body (source_start input n)) e in
+    let k = length (list_trace program.arrays program.body (source_start program.initial input n)) in
+    let paid = execute_list-paid program.arrays w program.body (omega arith) (source_start program.initial input n) in
+    let none = spent (execute_list program.arrays program.body (source_start program.initial input n)) e in
     let below = cost-below w k m in
     at_least k m (λ less. let b = below less in omega (arith, b, paid, none))
 
@@ -217,30 +218,30 @@ answered step f seen passed m here enough None h =
 answered step f seen passed m here enough (Some e) h = met step f seen m here.units e here.same h (decide_le m here.units)
 
 -- the flow and the source agree
-pub agree_on : (flow : FlowGraph) (program : ResolvedProgram) → flow.arrays ≡ program.arrays → Lowers flow program.body
+pub agree_on : (flow : FlowGraph) (program : ResolvedProgram) → flow.arrays ≡ program.arrays → flow.initial ≡ program.initial → Lowers flow program.body
     → (input : List ℤ) → Agree (flow_run flow input) (source_run program input)
-agree_on flow program same lowers input =
-    let start = flow_start flow.entry input in
-    subst (λ (arrays : List ℕ). Agree (nodes_run flow.nodes arrays flow.entry input) (source_run program input)) (sym same) (record {
+agree_on flow program same same_data lowers input =
+    let start = flow_start flow.entry flow.initial input in
+    subst (λ (arrays : List ℕ). Agree (nodes_run flow.nodes arrays flow.initial flow.entry input) (source_run program input)) (sym same) (record {
       forth = λ m.
           let n = cost (dos_list program.body) m in
           let seen = source_run program input n in (
             n,
-            answered (node_step flow.nodes program.arrays) start seen (length (trace_of program input n)) m (source-matches flow program same lowers input n)
+            answered (node_step flow.nodes program.arrays) start seen (length (trace_of program input n)) m (source-matches flow program same same_data lowers input n)
                 (enough_turns program input m) seen.end refl,
           );
       back = λ n.
-          let here = source-matches flow program same lowers input n in
-          (here.units, Answers-equal (source_run program input n) (nodes_run flow.nodes program.arrays flow.entry input here.units) here.same);
+          let here = source-matches flow program same same_data lowers input n in
+          (here.units, Answers-equal (source_run program input n) (nodes_run flow.nodes program.arrays flow.initial flow.entry input here.units) here.same);
     })
 
 -- on every input of words
 pub lowered_runs_agree : LoweredRunsAgree
-lowered_runs_agree flow program same lowers input words = agree_on flow program same lowers input
+lowered_runs_agree flow program same same_data lowers input words = agree_on flow program same same_data lowers input
 
 -- and so the flow comes to no fault
 pub lowered_runs_are_faultless : LoweredRunsAreFaultless
-lowered_runs_are_faultless flow program same lowers input m fault h =
-    let met = (agree_on flow program same lowers input).forth m in
+lowered_runs_are_faultless flow program same same_data lowers input m fault h =
+    let met = (agree_on flow program same same_data lowers input).forth m in
     let answer = subst (λ (e : Option End). Answers (flow_run flow input m) (source_run program input met.0) e) h met.1 in
     source_run-faultless program input met.0 fault answer.1

@@ -70,6 +70,7 @@ lays_nothing d to P f = record {
     as_many_loops = refl;
     same_loops = refl;
     arrays = refl;
+    initial = refl;
     nodes_kept = λ i h. refl;
     inside_kept = λ i h. refl;
     loops_kept = λ loop h. refl;

@@ -320,7 +320,7 @@ module _ (flow : FlowGraph) where
       implements-comes (source.Scope items) loop k i j b c p q g s out f at stands = list-comes items loop k i j b c p q g s out f at stands
       implements-comes (source.ScalarDeclaration name line initial) loop k i j b c p q g s out f at stands =
           declares-comes loop name initial p q b c g.1 s out f at stands
-      implements-comes (source.ArrayDeclaration name line bracket length) loop k i j b c p q g s out f at stands = record { at = at ∙ g.1; stands = stands }
+      implements-comes (source.ArrayDeclaration name line bracket length values) loop k i j b c p q g s out f at stands = record { at = at ∙ g.1; stands = stands }
       implements-comes (source.Assignment name line index bracket op place value) loop k i j b c p q g s out f at stands =
           assigns-comes loop name line index bracket op place value p q b c g.1 s out f at stands
       implements-comes (source.Printing line value) loop k i j b c p q g s out f at stands =

@@ -21,7 +21,7 @@ abbrev mutual
   pub statement_weight : SourceStatement → ℕ
   statement_weight (Scope items) = list_weight items + 1
   statement_weight (ScalarDeclaration name line initial) = 1
-  statement_weight (ArrayDeclaration name line at length) = 1
+  statement_weight (ArrayDeclaration name line at length values) = 1
   statement_weight (Assignment name line index bracket op at value) = 1
   statement_weight (Printing line value) = 1
   statement_weight (Evaluation line value) = 1

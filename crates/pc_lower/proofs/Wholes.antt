@@ -1,5 +1,6 @@
 -- A whole program: the end is placed first, then its statements.
 use Rattle.std.proofs.Common.{◌≡◌, ℕ, ◌+◌, ◌≤◌, min, List, [], length, append-nil, None, refl, sym, ◌∙◌, subst, arith}
+use Rattle.std.specs.Prelude.{ℤ}
 use Rattle.std.proofs.lemmas.List.{length-replicate}
 use Rattle.pc_word.specs.SourceLimits.{most_nodes}
 use Rattle.pc_word.specs.declared.loop_mark.LoopMark.{LoopMark}
@@ -22,9 +23,9 @@ use Rattle.pc_lower.proofs.Bounds.{list-loops_sized}
 use Rattle.pc_lower.proofs.Programs.{lowered_runs_agree, lowered_runs_pass_the_trace, lowered_runs_keep_pace}
 
 -- a draft in which nothing was placed
-pub is_unplaced : (count : ℕ) (loops : List LoopMark) (arrays : List ℕ) (body : SourceList) → count ≡ list_size body + 1 → count ≤ most_nodes
-    → length loops ≡ list_loops body → source_loops loops ≡ with_list_loops body None [] → AreLengths arrays → IsUnplaced (first_draft count loops arrays) body
-is_unplaced count loops arrays body e few l marked lengths = record {
+pub is_unplaced : (count : ℕ) (loops : List LoopMark) (arrays : List ℕ) (initial : List (List ℤ)) (body : SourceList) → count ≡ list_size body + 1 → count ≤ most_nodes
+    → length loops ≡ list_loops body → source_loops loops ≡ with_list_loops body None [] → AreLengths arrays → IsUnplaced (first_draft count loops arrays initial) body
+is_unplaced count loops arrays initial body e few l marked lengths = record {
   nodes = length-replicate count Stop ∙ e;
   few = omega (arith, e, few);
   loops = l;
@@ -100,24 +101,27 @@ is_laid {d2 = d2} {laid = laid} last ends body is stop l begins e =
     record {
       counted = whole.fills.as_many;
       arrays = whole.fills.arrays;
+      initial = whole.fills.initial;
       loops = whole.fills.same_loops;
       lowers = record { first = laid.start; last = last; stops = parts.0; body = parts.1.is 0 (omega (arith, e, sized, few)) marks };
       begins = begins.there;
     }
 
 -- what was laid is the flow graph of the program
-pub is_lowered : (program : ResolvedProgram) (old new : Draft) (entry : ℕ) (flow : FlowGraph) → IsLaid old new program.body entry → old.graph.arrays ≡ program.arrays
+pub is_lowered : (program : ResolvedProgram) (old new : Draft) (entry : ℕ) (flow : FlowGraph) → IsLaid old new program.body entry → old.graph.arrays ≡ program.arrays → old.graph.initial ≡ program.initial
     → length old.graph.nodes ≡ resolved_size program → resolved_size program ≤ most_nodes → source_loops old.graph.loops ≡ loops_of program
     → flow ≡ record new.graph { entry = entry } → TestsInside flow → EachTested new.graph → IsLowered program flow
-is_lowered program old new entry flow laid same count few marked e tests each =
+is_lowered program old new entry flow laid same same_data count few marked e tests each =
     let arrays = laid.arrays ∙ same in
+    let initial = laid.initial ∙ same_data in
     let graph : FlowGraph = record new.graph { entry = entry } in
     subst (IsLowered program) (sym e) (record {
-      agree = lowered_runs_agree graph program arrays laid.lowers;
-      traced = lowered_runs_pass_the_trace graph program arrays laid.lowers;
-      paced = lowered_runs_keep_pace graph program arrays laid.lowers;
+      agree = lowered_runs_agree graph program arrays initial laid.lowers;
+      traced = lowered_runs_pass_the_trace graph program arrays initial laid.lowers;
+      paced = lowered_runs_keep_pace graph program arrays initial laid.lowers;
       counted = laid.counted ∙ count;
       arrays = arrays;
+      initial = initial;
       placed = laid.lowers;
       loops = laid.loops ∙ marked;
       tests_inside = subst TestsInside e tests;

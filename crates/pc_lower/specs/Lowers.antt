@@ -172,7 +172,7 @@ module _ (flow : FlowGraph) where
     pub Implements : SourceStatement → (loop : Option ℕ) → (k i j b c r p q : ℕ) → Type 0
     Implements (source.Scope items) loop k i j b c r p q = ImplementsList items loop k i j b c r p q
     Implements (source.ScalarDeclaration name line initial) loop k i j b c r p q = (i ≡ p) × Declares loop name initial p q
-    Implements (source.ArrayDeclaration name line at length) loop k i j b c r p q = HasNone i j p q
+    Implements (source.ArrayDeclaration name line at length values) loop k i j b c r p q = HasNone i j p q
     Implements (source.Assignment name line index bracket op at value) loop k i j b c r p q =
         (i ≡ p) × Assigns loop name line index bracket op at value p q
     Implements (source.Printing line value) loop k i j b c r p q =

@@ -28,7 +28,7 @@ unfoldable mutual
   pub with_loops : SourceStatement → Option ℕ → List SourceLoop → List SourceLoop
   with_loops (Scope items) outer loops = with_list_loops items outer loops
   with_loops (ScalarDeclaration name line initial) outer loops = loops
-  with_loops (ArrayDeclaration name line at length) outer loops = loops
+  with_loops (ArrayDeclaration name line at length values) outer loops = loops
   with_loops (Assignment name line index bracket op at value) outer loops = loops
   with_loops (Printing line value) outer loops = loops
   with_loops (Evaluation line value) outer loops = loops
@@ -57,7 +57,7 @@ unfoldable mutual
   pub loop_count : SourceStatement → ℕ
   loop_count (Scope items) = list_loops items
   loop_count (ScalarDeclaration name line initial) = 0
-  loop_count (ArrayDeclaration name line at length) = 0
+  loop_count (ArrayDeclaration name line at length values) = 0
   loop_count (Assignment name line index bracket op at value) = 0
   loop_count (Printing line value) = 0
   loop_count (Evaluation line value) = 0

@@ -9,7 +9,7 @@ ghost use Rattle.pc_lower.specs.models.Drafts.{CanPlace, draft_with, CanAim, aim
 ghost use Rattle.pc_lower.specs.models.Fills.{Lays};
 
 use pc_flow::{Flow, FlowNode, FlowNodeList, InsideList, RankList};
-use pc_word::{LengthList, LoopList, LoopMark, Operand};
+use pc_word::{DataList, LengthList, LoopList, LoopMark, Operand};
 use std::alloc::{AllocError, Global};
 use std::marker::Model;
 
@@ -22,6 +22,7 @@ pub(crate) struct Draft {
     inside: InsideList,
     loops: LoopList,
     arrays: LengthList,
+    initial: DataList,
     ranked: u32,
 }
 
@@ -33,21 +34,22 @@ impl Model for Draft {
 
     ghost coded = { Prim.hlevel codes };
 
-    ghost view = { λ it. record { graph = record { nodes = it.nodes; ranks = it.ranks; inside = it.inside; entry = 0; loops = it.loops; arrays = it.arrays }; ranked = it.ranked } };
+    ghost view = { λ it. record { graph = record { nodes = it.nodes; ranks = it.ranks; inside = it.inside; entry = 0; loops = it.loops; arrays = it.arrays; initial = it.initial }; ranked = it.ranked } };
 
-    ghost invariant = { λ it. IsDraft (record { graph = record { nodes = it.nodes; ranks = it.ranks; inside = it.inside; entry = 0; loops = it.loops; arrays = it.arrays }; ranked = it.ranked }) };
+    ghost invariant = { λ it. IsDraft (record { graph = record { nodes = it.nodes; ranks = it.ranks; inside = it.inside; entry = 0; loops = it.loops; arrays = it.arrays; initial = it.initial }; ranked = it.ranked }) };
 }
 
 impl Draft {
-    /// So many nodes, of which none is placed, with these loops and arrays.
+    /// So many nodes, of which none is placed, with these loops, arrays and data.
     pub(crate) fn new(
         alloc: Global,
         count: u32,
         loops: LoopList,
         arrays: LengthList,
+        initial: DataList,
     ) -> Result<Draft, AllocError>
-        requires may { MayBegin count loops arrays }
-        ensures { IfOk result (λ draft. draft ≡ first_draft count loops arrays) }
+        requires may { MayBegin count loops arrays initial }
+        ensures { IfOk result (λ draft. draft ≡ first_draft count loops arrays initial) }
     {
         let nodes = stops(alloc, count)?;
         let ranks = zeros(alloc, count)?;
@@ -58,6 +60,7 @@ impl Draft {
             inside,
             loops,
             arrays,
+            initial,
             ranked: 0,
         })
     }
@@ -123,6 +126,7 @@ impl Draft {
             entry,
             self.loops,
             self.arrays,
+            self.initial,
         )
     }
 }

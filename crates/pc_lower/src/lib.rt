@@ -3,6 +3,7 @@
 #![tactic(auto)]
 
 mod assignment;
+mod data;
 mod draft;
 mod element;
 mod error;

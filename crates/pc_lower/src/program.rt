@@ -9,6 +9,7 @@ ghost use Rattle.pc_lower.specs.Lowered.{IsLowered, IsRefused};
 ghost use Rattle.pc_lower.specs.LoopTests.{EachTested};
 ghost use Rattle.pc_lower.specs.models.LowersStatement.{IsUnplaced, IsLaid};
 
+use crate::data::copy_data;
 use crate::draft::Draft;
 use crate::error::LowerError;
 use crate::marks::mark_list;
@@ -42,8 +43,9 @@ fn lower_body(draft: &mut Draft, last: u32, body: &StmtList) -> u32
     lower_list(draft, body, spot).entry
 }
 
-/// The flow graph of a checked program. It shows what the program shows, for every input. It fails
-/// where the graph would have more than 16,384 nodes, and where memory runs out.
+/// The flow graph of a checked program, with the data of its arrays. It shows what the program shows,
+/// for every input. It fails where the graph would have more than 16,384 nodes, and where memory runs
+/// out.
 pub fn lower(alloc: Global, checked: &Checked) -> Result<Flow, LowerError>
     ensures lowered { IfOk result (λ flow. IsLowered (resolved_of checked.now) flow) }
     ensures refused { IfErr result (λ e. IsRefused (resolved_size (resolved_of checked.now)) e) }
@@ -53,10 +55,11 @@ pub fn lower(alloc: Global, checked: &Checked) -> Result<Flow, LowerError>
         return Err(LowerError::TooLarge { nodes: count });
     }
     let arrays = LengthList::from_slice(alloc, checked.arrays.as_slice())?;
+    let initial = copy_data(alloc, &checked.initial)?;
     let items = &checked.body.items;
     let mut loops = LoopList::new(alloc);
     mark_list(&mut loops, items, None)?;
-    let mut draft = Draft::new(alloc, count, loops, arrays)?;
+    let mut draft = Draft::new(alloc, count, loops, arrays, initial)?;
     let entry = lower_body(&mut draft, count - 1, items);
     Ok(draft.into_flow(entry))
 }

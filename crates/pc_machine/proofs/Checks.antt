@@ -16,8 +16,8 @@ use Rattle.pc_machine.specs.MachineCode.{CodeRow, RowCode, row_of, rows_of}
 use Rattle.pc_word.specs.Row.{Then, Either}
 use Rattle.pc_word.specs.Items.{is_memory}
 use Rattle.pc_machine.specs.declared.code.Flaw.TheVariants.{DataTail}
-use Rattle.pc_machine.specs.Data.{ends_in_zero}
-use Rattle.pc_machine.proofs.Data.{ends_in_zero-last}
+use Rattle.pc_word.specs.Data.{ends_in_zero}
+use Rattle.pc_word.proofs.Data.{ends_in_zero-last}
 use Rattle.pc_machine.specs.Flaws.{flaw_where, data_count_flaws, data_tail_flaws, data_flaws}
 use Rattle.pc_machine.specs.Flaws.{Above, nothing_above, no_counts, above_with, counts_with_item, counts_with_test, counts_after, item_flaws, test_flaws, row_flaws, header_flaws, bounds_of, flaws_of}
 use Rattle.pc_word.specs.Exact.{checked}

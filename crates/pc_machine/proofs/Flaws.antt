@@ -21,7 +21,8 @@ use Rattle.pc_machine.specs.MachineCode.{CodeRow, RowCode}
 use Rattle.pc_word.specs.Row.{Then, Either, At_leaf, items_of, tests_of, leaves_of, paths_of}
 use Rattle.pc_word.specs.Items.{dest_of, is_memory, is_effect}
 use Rattle.pc_word.specs.Commit.{writes}
-use Rattle.pc_machine.specs.WellFormed.{IsOperand, IsItem, IsLeaf, IsPath, IsRow, IsData, AreData, WellFormed}
+use Rattle.pc_machine.specs.WellFormed.{IsOperand, IsItem, IsLeaf, IsPath, IsRow, WellFormed}
+use Rattle.pc_word.specs.Data.{IsData, AreData}
 use Rattle.pc_word.specs.Ranges.{IsBetween, AreLimits}
 use Rattle.pc_word.proofs.Lists.{all_front, all_back, all_both, all_of_map, map_of_all, all_imply, count_more, count_both}
 use Rattle.pc_machine.specs.Flaws.{flaw_where, is_between, limit_flaws, limits_flaws, array_count_flaws, register_count_flaws, length_flaws, lengths_flaws}
@@ -32,7 +33,7 @@ use Rattle.pc_machine.specs.Flaws.{item_flaws, test_flaws, leaf_flaws, row_flaws
 use Rattle.pc_word.proofs.Truth.{below_of, most_of, of_below, of_most, or_false, or_made_false}
 use Rattle.pc_word.specs.MachineLimits.{most_arrays, most_elements, most_length, most_mem, most_ops, most_tests}
 use Rattle.pc_machine.specs.Registers.{few_registers, most_registers, IsRegisterCount}
-use Rattle.pc_machine.specs.Data.{ends_in_zero}
+use Rattle.pc_word.specs.Data.{ends_in_zero}
 
 -- ---- lists of flaws
 

@@ -1,5 +1,4 @@
 pub mod Checks
-pub mod Data
 pub mod Flaws
 pub mod MachineRuns
 pub mod Paths

@@ -1,13 +1,10 @@
 -- Laws of the machine run.
-use Rattle.std.proofs.Common.{◌≡◌, true, List, Some, ap}
-use Rattle.std.specs.Prelude.{ℤ, pos, slice_get}
+use Rattle.std.proofs.Common.{◌≡◌, List, Some, ap}
+use Rattle.std.specs.Prelude.{ℤ, slice_get}
 use Rattle.pc_word.specs.Row.{row_step}
 use Rattle.pc_word.specs.Run.{Grows}
 use Rattle.pc_word.proofs.Runs.{run_from-grows}
 use Rattle.pc_machine.specs.MachineCode.{CodeRow, RowCode}
-use Rattle.pc_word.specs.State.{start_state}
-use Rattle.pc_machine.specs.Data.{has_no_data}
-use Rattle.pc_machine.proofs.Data.{first_cells-none}
 use Rattle.pc_machine.specs.MachineRun.{Cycle, after_row, run_row, machine_step, machine_start, machine_run}
 
 -- with more cycles the printed list only grows, and an end stays
@@ -18,10 +15,3 @@ machine_run-grows code input = run_from-grows (machine_step code) (machine_start
 pub machine_step-row : (code : RowCode) (here : Cycle) (row : CodeRow) → slice_get code.rows here.row ≡ Some row
     → machine_step code here ≡ after_row (row_step code.arrays row here.state)
 machine_step-row code here row at = ap (λ found. run_row code.arrays here.state found) at
-
--- without data all registers and elements are 0 at the start
-pub machine_start-no_data : (code : RowCode) (input : List ℤ) → has_no_data code.initial ≡ true → machine_start code input ≡ record { row = 0; state = start_state input }
-machine_start-no_data code input none = λ i. record {
-  row = 0;
-  state = record { names = λ register. pos 0; cells = λ array place. first_cells-none code.initial none array place i; input = input };
-}

@@ -22,7 +22,7 @@ use Rattle.pc_word.specs.Items.{dest_of, is_memory, is_effect}
 use Rattle.pc_word.specs.Commit.{writes}
 use Rattle.pc_word.specs.MachineLimits.{most_arrays, most_elements, most_length, most_mem, most_ops, most_tests}
 use Rattle.pc_machine.specs.Registers.{few_registers, most_registers}
-use Rattle.pc_machine.specs.Data.{ends_in_zero}
+use Rattle.pc_word.specs.Data.{ends_in_zero}
 
 -- a flaw, where a test says so
 abbrev pub flaw_where : Bool → Flaw → List Flaw

@@ -1,6 +1,5 @@
 pub mod Registers
 pub mod MachineCode
-pub mod Data
 pub mod MachineRun
 pub mod Reachable
 pub mod WellFormed

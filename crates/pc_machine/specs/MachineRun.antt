@@ -1,12 +1,11 @@
 -- What a code does, cycle by cycle.
-use Rattle.std.specs.Prelude.{ℕ, ℤ, pos, List, [], Option, Some, None, slice_get}
+use Rattle.std.specs.Prelude.{ℕ, ℤ, List, [], Option, Some, None, slice_get}
 use Rattle.pc_word.specs.declared.item.End.TheVariants.{Ended, Trapped, Fault}
 use Rattle.pc_word.specs.Run.{Run, Step, Goes, Stops, run_from}
 use Rattle.pc_machine.specs.declared.tree.Leaf.{Leaf}
 use Rattle.pc_machine.specs.declared.tree.Leaf.TheVariants.{Goto, Stop, Trap}
 use Rattle.pc_machine.specs.MachineCode.{CodeRow, RowCode}
-use Rattle.pc_machine.specs.Data.{first_cells}
-use Rattle.pc_word.specs.State.{State}
+use Rattle.pc_word.specs.State.{State, start_state}
 use Rattle.pc_word.specs.Row.{RowOutcome, Faults, Commits, row_step}
 
 -- where a machine is: the row that comes next, and the state, whose names are the registers
@@ -34,9 +33,9 @@ run_row lengths state None = Stops [] Ended
 abbrev pub machine_step : RowCode → Cycle → Step Cycle
 machine_step code here = run_row code.arrays here.state (slice_get code.rows here.row)
 
--- row 0, with all registers 0; each array begins with its data and goes on with 0
+-- row 0, with all registers 0, on arrays that begin with the code's data
 abbrev pub machine_start : RowCode → List ℤ → Cycle
-machine_start code input = record { row = 0; state = record { names = λ register. pos 0; cells = first_cells code.initial; input = input } }
+machine_start code input = record { row = 0; state = start_state code.initial input }
 
 -- the run of a code on an input: at most n cycles
 abbrev pub machine_run : RowCode → List ℤ → Run

@@ -1,5 +1,5 @@
 -- When a code is well formed: it keeps the machine's limits and its own.
-use Rattle.std.specs.Prelude.{◌≡◌, ℕ, ℤ, ◌<◌, ◌≤◌, false, nat_eq, List, [], ◌∷◌, length, sum}
+use Rattle.std.specs.Prelude.{ℕ, ◌<◌, ◌≤◌, nat_eq, List, length, sum}
 use Rattle.std.specs.List.{AllByRecursion, count_by, filter_map, IsDistinct}
 use Rattle.pc_word.specs.declared.item.Item.{Item}
 use Rattle.pc_word.specs.declared.item.Item.TheVariants.{Bin, Copy, Load, Store, Print, Read, More}
@@ -13,7 +13,7 @@ use Rattle.pc_word.specs.Row.{items_of, leaves_of, paths_of, tests_of}
 use Rattle.pc_word.specs.Items.{dest_of, is_effect, is_memory}
 use Rattle.pc_word.specs.MachineLimits.{most_arrays, most_elements, most_length}
 use Rattle.pc_machine.specs.Registers.{IsRegisterCount}
-use Rattle.pc_machine.specs.Data.{ends_in_zero}
+use Rattle.pc_word.specs.Data.{AreData}
 use Rattle.pc_word.specs.Ranges.{AreLimits, IsBetween}
 
 -- ---- what a row keeps
@@ -61,17 +61,6 @@ pub record AreArrays (lengths : List ℕ) : Type 0 where
   pub count : length lengths ≤ most_arrays
   pub each : AllByRecursion (IsBetween 1 most_length) lengths
   pub elements : sum lengths ≤ most_elements
-
--- the data of an array with so many elements has room in it, and does not end in 0
-pub record IsData (elements : ℕ) (words : List ℤ) : Type 0 where
-  pub fits : length words ≤ elements
-  pub tail : ends_in_zero words ≡ false
-
--- one list of words for each array, which is its data
-abbrev pub AreData : List ℕ → List (List ℤ) → Type 0
-AreData [] [] = Unit {0}
-AreData (elements ∷ arrays) (words ∷ initial) = IsData elements words × AreData arrays initial
-AreData _ _ = ⊥
 
 -- its limits, registers, arrays and data are the machine's, it has an entry, and each row keeps its limits
 pub record WellFormed (code : RowCode) : Type 0 where

@@ -1,14 +1,11 @@
 use crate::tree::Tree;
-use pc_word::{LengthList, Limits, Seq, WordList};
+use pc_word::{DataList, LengthList, Limits, Seq};
 
 /// The fewer registers that a code may ask for.
 pub const FEW_REGISTERS: usize = 128;
 
 /// The most registers that a code may ask for.
 pub const MOST_REGISTERS: usize = 256;
-
-/// The words with which each array begins, by number.
-pub type DataList = Seq<WordList>;
 
 /// Rows, by number.
 pub type TreeList = Seq<Tree>;

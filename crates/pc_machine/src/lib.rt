@@ -5,7 +5,6 @@
 
 mod check;
 mod code;
-mod initial;
 mod laws;
 mod tree;
 
@@ -13,8 +12,7 @@ pub use check::{
     Bounds, Counts, Path, array_count, array_length, data_count, data_tail, limit, register_count,
     row_count, well_formed,
 };
-pub use code::{Code, DataList, FEW_REGISTERS, Flaw, MOST_REGISTERS, TreeList};
-pub use initial::no_data;
+pub use code::{Code, FEW_REGISTERS, Flaw, MOST_REGISTERS, TreeList};
 pub use laws::laws_of_codes;
 pub use pc_word::{End, MachineFault};
 pub use tree::{Leaf, Tree, leaf_count};

@@ -21,7 +21,7 @@ struct Cost {
 
 /// The numbers of the input are added up: row 0 asks whether there is one, row 1 reads it, or prints the sum
 /// and stops, and row 2 adds it.
-fn sum_rows(alloc: Global) -> Result<TreeList, AllocError> {
+pub(crate) fn sum_rows(alloc: Global) -> Result<TreeList, AllocError> {
     let mut rows = TreeList::new(alloc);
     let more = Item::More { dest: 1 };
     let add = Item::Bin {
@@ -46,7 +46,7 @@ fn sum_rows(alloc: Global) -> Result<TreeList, AllocError> {
 }
 
 /// Row 0 copies, row 1 stores twice into one element, and row 2 is not run.
-fn fault_rows(alloc: Global) -> Result<TreeList, AllocError> {
+pub(crate) fn fault_rows(alloc: Global) -> Result<TreeList, AllocError> {
     let mut rows = TreeList::new(alloc);
     let copy = Item::Copy {
         dest: 0,

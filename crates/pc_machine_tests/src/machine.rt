@@ -1,6 +1,6 @@
 //! Codes that are well formed, and the flaws of others.
 
-use pc_machine::{Code, DataList, Flaw, Leaf, Tree, well_formed};
+use pc_machine::{Code, Flaw, Leaf, Tree, well_formed};
 use pc_word::{Item, LengthList, Limits, OpCode, Operand, RowTree, Seq, TrapKind, WordList};
 use std::alloc::{AllocError, Global};
 use std::test::Fail;
@@ -42,7 +42,7 @@ fn planted(alloc: Global, part: Part, behind: &mut Vec<Tree>) -> Result<Tree, Al
 }
 
 /// The data of arrays.
-fn data(alloc: Global, lists: &[&[i32]]) -> Result<DataList, AllocError> {
+fn data(alloc: Global, lists: &[&[i32]]) -> Result<pc_word::DataList, AllocError> {
     let mut initial = Seq::new(alloc);
     for words in lists {
         initial.push(WordList::from_slice(alloc, words)?)?;

@@ -1,12 +1,11 @@
 //! Codes that are run. What operators give was computed with C17, by gcc with wrapping arithmetic.
 
-use pc_machine::{
-    Code, DataList, FEW_REGISTERS, Leaf, MOST_REGISTERS, Tree, TreeList, no_data, well_formed,
-};
+use pc_machine::{Code, FEW_REGISTERS, Leaf, MOST_REGISTERS, Tree, TreeList, well_formed};
 use pc_outside::SureSink;
 use pc_vm::{Machine, Outcome, RunError};
 use pc_word::{
-    End, Item, LengthList, Limits, MachineFault, OpCode, Operand, RowTree, TrapKind, WordList,
+    DataList, End, Item, LengthList, Limits, MachineFault, OpCode, Operand, RowTree, TrapKind,
+    WordList, no_data,
 };
 use std::alloc::{AllocError, Global};
 use std::test::Fail;

@@ -14,7 +14,11 @@ use Rattle.pc_meaning.specs.Trace.{Kind, trace_of}
 
 -- int main(void){items}, with at most ten scalars and arrays of these lengths
 abbrev pub program : List SourceStatement → List ℕ → ResolvedProgram
-program items lengths = record { scalars = 10; arrays = lengths; body = source_list items }
+program items lengths = record { scalars = 10; arrays = lengths; initial = []; body = source_list items }
+
+-- the same program, whose arrays begin with these data
+abbrev pub with_data : List (List ℤ) → (List ℕ → ResolvedProgram) → List ℕ → ResolvedProgram
+with_data initial program lengths = record (program lengths) { initial = initial }
 
 -- what it shows on an input, with at most so many turns
 abbrev pub shown_by : (List ℕ → ResolvedProgram) → List ℕ → List ℤ → ℕ → Seen
@@ -66,7 +70,7 @@ new_as x e = ScalarDeclaration x 1 (Some e)
 
 -- int a[length];
 abbrev pub new_array : ℕ → ℕ → SourceStatement
-new_array a length = ArrayDeclaration a 1 1 length
+new_array a length = ArrayDeclaration a 1 1 length []
 
 -- x=e;
 abbrev pub put : ℕ → SourceExpression → SourceStatement

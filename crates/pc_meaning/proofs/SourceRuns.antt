@@ -46,7 +46,7 @@ unfolding outcome_of
 outcome_of-extends program input n m le =
     let e : n + (m - n) ≡ m = omega arith in
     subst (λ (k : ℕ). Extends (m - n) (outcome_of program input n) (outcome_of program input k)) e
-    ((execute_list-steady program.arrays program.body).extends (m - n) (source_start input n))
+    ((execute_list-steady program.arrays program.body).extends (m - n) (source_start program.initial input n))
 
 -- with more turns the printed list only grows, and an end stays
 pub source_run-grows : (program : ResolvedProgram) (input : List ℤ) → Grows (source_run program input)

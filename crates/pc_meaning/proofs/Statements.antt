@@ -321,7 +321,7 @@ mutual
   pub execute-steady : (lengths : List ℕ) (statement : SourceStatement) → Steady (execute lengths statement) (execute lengths statement)
   execute-steady lengths (Scope items) = execute_list-steady lengths items
   execute-steady lengths (ScalarDeclaration name line initial) = declare-steady lengths name initial
-  execute-steady lengths (ArrayDeclaration name line at length) = GoesOn-steady
+  execute-steady lengths (ArrayDeclaration name line at length values) = GoesOn-steady
   execute-steady lengths (Assignment name line index bracket op at value) = assignment-steady lengths name line index bracket op at value
   execute-steady lengths (Printing line value) =
       do_with-steady (eval lengths value) (λ v s. GoesOn (add_printed v s)) (λ v s. GoesOn (add_printed v s)) (eval-quiet lengths value) print-steady

@@ -304,7 +304,7 @@ mutual
   execute-counts : (lengths : List ℕ) (statement : SourceStatement) (s : ProgramState) → Counts s (state_at_end (execute lengths statement s)) (statement_trace lengths statement s)
   execute-counts lengths (Scope items) s = execute_list-counts lengths items s
   execute-counts lengths (ScalarDeclaration name line initial) s = declare-counts lengths name initial s
-  execute-counts lengths (ArrayDeclaration name line at length) s = Counts-nothing s
+  execute-counts lengths (ArrayDeclaration name line at length values) s = Counts-nothing s
   execute-counts lengths (Assignment name line index bracket op at value) s = assignment-counts lengths name line index bracket op at value s
   execute-counts lengths (Printing line value) s =
       done-counts s (eval lengths value s) (trace lengths value s) (λ v t. GoesOn (add_printed v t)) (λ v. passes Print_node) (eval-counts lengths value s) print-counts
@@ -350,9 +350,9 @@ mutual
 -- ---- programs
 
 -- what a program's outcome and trace count
-outcome-counts : (program : ResolvedProgram) (input : List ℤ) (n : ℕ) → Counts (source_start input n) (state_at_end (outcome_of program input n)) (trace_of program input n)
+outcome-counts : (program : ResolvedProgram) (input : List ℤ) (n : ℕ) → Counts (source_start program.initial input n) (state_at_end (outcome_of program input n)) (trace_of program input n)
 unfolding outcome_of trace_of
-outcome-counts program input n = execute_list-counts program.arrays program.body (source_start input n)
+outcome-counts program input n = execute_list-counts program.arrays program.body (source_start program.initial input n)
 
 -- as many prints are passed as numbers are printed
 pub trace_of-prints : (program : ResolvedProgram) (input : List ℤ) (n : ℕ) → length (source_run program input n).printed ≡ count_by is_print (trace_of program input n)

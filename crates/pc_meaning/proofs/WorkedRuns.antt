@@ -6,11 +6,11 @@ use Rattle.pc_word.specs.declared.item.End.TheVariants.{Ended}
 use Rattle.pc_word.specs.declared.item.TrapKind.TheVariants.{DivideByZero, OutOfBounds, EndOfInput}
 use Rattle.pc_word.specs.declared.item.OpCode.TheVariants as codes
 use Rattle.pc_word.specs.Word.{word_add, word_sub, word_div, word_rem, word_less, word_unequal}
-use Rattle.pc_syntax.specs.declared.operator.BinaryOp.TheVariants.{Sub, Div, Rem, Less, Unequal}
+use Rattle.pc_syntax.specs.declared.operator.BinaryOp.TheVariants.{Add, Sub, Div, Rem, Less, Unequal}
 use Rattle.pc_syntax.specs.Source.{ResolvedProgram, Combined, Printing, Branch, Present}
 use Rattle.pc_meaning.specs.SourceRun.{outcome_of, source_run}
 use Rattle.pc_meaning.specs.Trace.{trace_of, Binary_node, Copy_node, Print_node, Read_node, More_node, Test_node}
-use Rattle.pc_meaning.proofs.Programs.{program, shown_by, passed_by, number, minus, scalar, at, read, on, plus, new, new_as, new_array, put, put_at, print, block, when, count, ended, trapped, going}
+use Rattle.pc_meaning.proofs.Programs.{program, shown_by, passed_by, number, minus, scalar, at, read, on, plus, new, new_as, new_array, put, put_at, change_at, print, block, when, count, with_data, ended, trapped, going}
 
 -- ---- words
 
@@ -133,6 +133,41 @@ chain = program (
 chain_shown : shown_by chain (51 ∷ []) [] 50 ≡ ended (53 ∷ [])
 unfolding source_run outcome_of word_add word_less int_wrap
 chain_shown = refl
+
+-- ---- static arrays
+
+-- int main(void){static int a[4]={5,-6,0,0};print(a[0]+a[1]+a[3]);}
+abbrev three_elements : List ℕ → ResolvedProgram
+three_elements = with_data ((pos 5 ∷ negsuc 5 ∷ []) ∷ []) (program (
+    new_array 0 4 ∷ print (plus (plus (at 0 (number 0)) (at 0 (number 1))) (at 0 (number 3))) ∷ []))
+
+-- 5, -6 and 0
+three_elements_shown : shown_by three_elements (4 ∷ []) [] 0 ≡ record { printed = negsuc 0 ∷ []; end = Some Ended }
+unfolding source_run outcome_of word_add int_wrap
+three_elements_shown = refl
+
+-- int main(void){int i;for(i=0;i<3;i++){static int a[2]={7};a[0]+=1;a[1]+=a[0];print(a[0]);print(a[1]);}}
+abbrev made_once : List ℕ → ResolvedProgram
+made_once = with_data ((pos 7 ∷ []) ∷ []) (program (
+    new 0 ∷
+    count 0 3 (block (
+    new_array 0 2 ∷ change_at 0 (number 0) Add (number 1) ∷ change_at 0 (number 1) Add (at 0 (number 0)) ∷
+    print (at 0 (number 0)) ∷ print (at 0 (number 1)) ∷ [])) ∷ []))
+
+-- no turn sets the values again
+made_once_shown : shown_by made_once (2 ∷ []) [] 3 ≡ ended (8 ∷ 8 ∷ 9 ∷ 17 ∷ 10 ∷ 27 ∷ [])
+unfolding source_run outcome_of word_add word_less int_wrap
+made_once_shown = refl
+
+-- int main(void){static int a[2]={1};{static int a[1]={2};print(a[0]);}print(a[0]);print(a[1]);}
+abbrev one_in_another : List ℕ → ResolvedProgram
+one_in_another = with_data ((pos 1 ∷ []) ∷ (pos 2 ∷ []) ∷ []) (program (
+    new_array 0 2 ∷ block (new_array 1 1 ∷ print (at 1 (number 0)) ∷ []) ∷ print (at 0 (number 0)) ∷ print (at 0 (number 1)) ∷ []))
+
+-- each array has its own data
+one_in_another_shown : shown_by one_in_another (2 ∷ 1 ∷ []) [] 0 ≡ ended (2 ∷ 1 ∷ 0 ∷ [])
+unfolding source_run outcome_of
+one_in_another_shown = refl
 
 -- ---- what is passed
 

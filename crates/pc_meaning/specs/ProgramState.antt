@@ -1,6 +1,7 @@
 -- What a source program works on: its scalars, its arrays, the input, what it has printed, and how many
 -- turns of loops it may still start.
 use Rattle.std.specs.Prelude.{ℕ, ℤ, pos, List, [], ◌∷◌, ◌++◌, if◌then◌else◌, ◌&&◌, nat_eq}
+use Rattle.pc_word.specs.Data.{first_cells}
 
 -- the state of a program
 pub record ProgramState : Type 0 where
@@ -15,10 +16,12 @@ pub record ProgramState : Type 0 where
   -- how many turns of loops may still be started
   pub turns : ℕ
 
--- where a program starts: all scalars and elements are 0 (C17 6.7.9 has that for objects of static storage only)
-abbrev pub source_start : List ℤ → ℕ → ProgramState
-source_start input turns =
-    record { scalars = λ x. pos 0; cells = λ array place. pos 0; input = input; printed = []; turns = turns }
+-- Where a program starts: all scalars are 0, and each array begins with its data and goes on with 0 (C17 6.2.4 and 6.7.9 have
+-- that for objects of static storage only). This is all that initialises an array: no declaration that is reached later
+-- sets its elements again.
+abbrev pub source_start : List (List ℤ) → List ℤ → ℕ → ProgramState
+source_start initial input turns =
+    record { scalars = λ x. pos 0; cells = first_cells initial; input = input; printed = []; turns = turns }
 
 -- the state with another value in one scalar
 abbrev pub set_scalar : ℕ → ℤ → ProgramState → ProgramState

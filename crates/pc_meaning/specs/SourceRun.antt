@@ -17,7 +17,7 @@ shown (Spent s) = record { printed = s.printed; end = None }
 
 -- what a program comes to on an input, with at most n turns of loops in all
 unfoldable pub outcome_of : ResolvedProgram → List ℤ → ℕ → Completion
-outcome_of program input n = execute_list program.arrays program.body (source_start input n)
+outcome_of program input n = execute_list program.arrays program.body (source_start program.initial input n)
 
 -- the run of a program on an input: at most n turns of loops in all
 unfoldable pub source_run : ResolvedProgram → List ℤ → Run

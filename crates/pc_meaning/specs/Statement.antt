@@ -132,7 +132,8 @@ abbrev mutual
   pub execute : List ℕ → SourceStatement → ProgramState → Completion
   execute lengths (Scope items) s = execute_list lengths items s
   execute lengths (ScalarDeclaration name line initial) s = declare lengths name initial s
-  execute lengths (ArrayDeclaration name line at length) s = GoesOn s
+  -- an array is there before the program starts, with its data
+  execute lengths (ArrayDeclaration name line at length values) s = GoesOn s
   execute lengths (Assignment name line index bracket op at value) s =
       assignment lengths name line index bracket op at value s
   execute lengths (Printing line value) s = do_with (eval lengths value s) (λ v s. GoesOn (add_printed v s))

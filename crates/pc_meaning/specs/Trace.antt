@@ -195,7 +195,7 @@ abbrev mutual
   pub statement_trace : List ℕ → SourceStatement → ProgramState → List Kind
   statement_trace lengths (Scope items) s = list_trace lengths items s
   statement_trace lengths (ScalarDeclaration name line initial) s = declaration_trace lengths initial s
-  statement_trace lengths (ArrayDeclaration name line at length) s = []
+  statement_trace lengths (ArrayDeclaration name line at length values) s = []
   statement_trace lengths (Assignment name line index bracket op at value) s =
       assignment_trace lengths name line index op at value s
   statement_trace lengths (Printing line value) s =
@@ -230,4 +230,4 @@ abbrev mutual
 -- the kinds that the evaluation of a program passes on an input, with at most n turns of loops in all. Where it traps or
 -- its turns are spent, the last one is the test that leads to the trap, or to the turn that is not started
 unfoldable pub trace_of : ResolvedProgram → List ℤ → ℕ → List Kind
-trace_of program input n = list_trace program.arrays program.body (source_start input n)
+trace_of program input n = list_trace program.arrays program.body (source_start program.initial input n)

@@ -13,10 +13,10 @@ use Rattle.pc_word.specs.MachineLimits.{most_mem, most_ops, most_tests}
 use Rattle.pc_machine.specs.declared.code.Flaw.{Flaw}
 use Rattle.pc_machine.specs.declared.code.Flaw.TheVariants as flaws
 use Rattle.pc_machine.specs.Registers.{few_registers}
-use Rattle.pc_machine.specs.Data.{ends_in_zero}
+use Rattle.pc_word.specs.Data.{ends_in_zero}
 use Rattle.pc_machine.specs.Flaws.{flaw_where, limit_flaws, limits_flaws, array_count_flaws, register_count_flaws, length_flaws, lengths_flaws}
 use Rattle.pc_machine.specs.Flaws.{data_count_flaws, data_tail_flaws, data_flaws, each_data_flaws, initial_flaws, row_count_flaws}
-use Rattle.pc_machine.proofs.Data.{no_data-replicate, AreData-none}
+use Rattle.pc_word.proofs.Data.{no_data-replicate, AreData-none}
 use Rattle.pc_machine.proofs.Flaws.{initial_complete, no_initial_flaws}
 use Rattle.pc_object.specs.declared.version.Version.{Version}
 use Rattle.pc_object.specs.declared.version.Version.TheVariants.{Ptv1, Ptv2}

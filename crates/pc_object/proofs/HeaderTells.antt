@@ -12,11 +12,11 @@ use Rattle.pc_word.proofs.Truth.{and_true}
 use Rattle.pc_machine.specs.declared.code.Flaw.{Flaw}
 use Rattle.pc_machine.specs.declared.code.Flaw.TheVariants as flaws
 use Rattle.pc_machine.specs.Registers.{few_registers}
-use Rattle.pc_machine.specs.Data.{ends_in_zero, has_no_data}
+use Rattle.pc_word.specs.Data.{ends_in_zero, has_no_data}
 use Rattle.pc_machine.specs.MachineCode.{RowCode}
 use Rattle.pc_machine.specs.Flaws.{flaw_where, limit_flaws, limits_flaws, array_count_flaws, register_count_flaws, length_flaws, lengths_flaws}
 use Rattle.pc_machine.specs.Flaws.{data_count_flaws, data_tail_flaws, data_flaws, each_data_flaws, initial_flaws, row_count_flaws, header_flaws}
-use Rattle.pc_machine.proofs.Data.{AreData-none}
+use Rattle.pc_word.proofs.Data.{AreData-none}
 use Rattle.pc_machine.proofs.Flaws.{initial_complete, of_as_many}
 use Rattle.pc_object.specs.declared.refusal.Refusal.{Refusal}
 use Rattle.pc_object.specs.declared.version.Version.{Version}

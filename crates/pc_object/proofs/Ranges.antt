@@ -2,7 +2,7 @@
 use Rattle.std.proofs.Common.{◌≡◌, Bool, true, false, inl, inr, ℤ, ℕ, ◌^◌, ◌<◌, ◌≤◌, List, [], ◌∷◌, ◌++◌, length, All, refl, arith, length-append}
 use Rattle.std.specs.Prelude.{FitsSigned, nat_eq, if◌then◌else◌, OnOk, Result, Ok, Err}
 use Rattle.pc_word.proofs.Truth.{and_true}
-use Rattle.pc_machine.specs.Data.{has_no_data}
+use Rattle.pc_word.specs.Data.{has_no_data}
 use Rattle.pc_object.specs.declared.version.Version.TheVariants.{Ptv1, Ptv2}
 use Rattle.pc_object.specs.ObjectText.{fits_ptv1, version_for}
 use Rattle.std.specs.Int.{w32}
@@ -26,7 +26,7 @@ use Rattle.pc_object.specs.Numbers.{RowNumbersFit, NoteFits, WordsFit, HasWords}
 use Rattle.pc_word.proofs.Lists.{all_front, all_back}
 use Rattle.pc_word.specs.MachineLimits.{most_arrays, most_length}
 use Rattle.pc_machine.specs.Registers.{few_registers, most_registers, IsRegisterCount}
-use Rattle.pc_machine.specs.WellFormed.{AreData}
+use Rattle.pc_word.specs.Data.{AreData}
 use Rattle.pc_word.specs.Ranges.{IsBetween}
 
 -- ---- registers, arrays and targets

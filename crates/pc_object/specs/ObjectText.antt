@@ -13,7 +13,7 @@ use Rattle.pc_word.specs.declared.item.TrapKind.TheVariants.{DivideByZero, OutOf
 use Rattle.pc_machine.specs.declared.tree.Leaf.{Leaf}
 use Rattle.pc_machine.specs.declared.tree.Leaf.TheVariants.{Goto, Stop, Trap}
 use Rattle.pc_machine.specs.Registers.{few_registers}
-use Rattle.pc_machine.specs.Data.{has_no_data}
+use Rattle.pc_word.specs.Data.{has_no_data}
 use Rattle.pc_machine.specs.MachineCode.{CodeRow, RowCode, code_of}
 use Rattle.pc_word.specs.Row.{Then, Either, At_leaf}
 use Rattle.pc_machine.specs.WellFormed.{WellFormed}

@@ -1,5 +1,5 @@
 ghost use Rattle.std.specs.Prelude.{◌≡◌};
-ghost use Rattle.pc_machine.specs.Data.{has_no_data};
+ghost use Rattle.pc_word.specs.Data.{has_no_data};
 ghost use Rattle.pc_object.specs.ObjectText.{fits_ptv1, version_for};
 
 use pc_machine::FEW_REGISTERS;

@@ -6,10 +6,13 @@ use Rattle.pc_lexer.specs.declared.token.TokenKind.{TokenKind}
 use Rattle.pc_lexer.specs.declared.token.TokenKind.TheVariants as kinds
 use Rattle.pc_lexer.specs.declared.mark.Mark.{Mark}
 use Rattle.pc_lexer.specs.declared.mark.Mark.TheVariants as marks
+use Rattle.pc_lexer.specs.declared.keyword.Keyword.{Keyword}
 use Rattle.pc_lexer.specs.declared.keyword.Keyword.TheVariants as keys
 use Rattle.pc_syntax.specs.declared.operator.BinaryOp.{BinaryOp}
 use Rattle.pc_syntax.specs.Source.{SourceExpression, SourceStatement, SourceList, OptionalStatement, Literal, Printing, Evaluation}
 use Rattle.pc_parser.specs.declared.operator.Operator.{Operator}
+use Rattle.pc_parser.specs.declared.storage.Storage.{Storage}
+use Rattle.pc_parser.specs.declared.storage.Storage.TheVariants.{Automatic, Static}
 use Rattle.pc_parser.specs.Places.{kind_at, line_at}
 use Rattle.pc_parser.specs.models.Tests.{is_mark, is_key}
 use Rattle.pc_parser.specs.Operators.{operator_of, assignment_of, step_of}
@@ -20,10 +23,11 @@ use Rattle.pc_parser.specs.models.ExpressionParser.{operator_from, tight, sign_o
 use Rattle.pc_parser.specs.models.ExpressionParser.{part, expression_at, below}
 use Rattle.pc_parser.specs.models.StatementParser.{assignment_from, step_from, symbol_of, length_of, name_budget, parenthesized_at, closed_behind, closed, target_on, target_at, evaluation}
 use Rattle.pc_parser.specs.models.StatementParser.{evaluation_from, print_at, step_before, assignment, behind_target, on_target, named, marked, simple_on, simple_at, ended_at, array}
-use Rattle.pc_parser.specs.models.StatementParser.{initialised, declarator_on, declarator_at, last_declarator, declarators_at, declaration_at, first_at, condition_at, step_at}
+use Rattle.pc_parser.specs.models.StatementParser.{initialised, declarator_on, declarator_at, last_declarator, declarators_at, declaration_at, static_at, first_at, condition_at, step_at}
 use Rattle.pc_parser.proofs.Budgets.{expression_at-part}
 use Rattle.pc_parser.proofs.Tokens.{is_mark-of, is_key-of, is_mark-true}
-use Rattle.pc_parser.proofs.Finds.{allowed-yes, expect-yes, after-parsed, cond-yes, cond-no, climb-ends}
+use Rattle.pc_parser.proofs.Finds.{allowed-yes, expect-yes, expect_key-yes, after-parsed, cond-yes, cond-no, climb-ends}
+use Rattle.pc_parser.proofs.FindsArrays.{finds-fixed}
 use Rattle.pc_parser.proofs.FindsExpressions.{FollowsWhole, follows-paren, follows-bracket, follows-semicolon, follows-comma, finds-lone, finds-indexed, finds-expression, expression-positive}
 use Rattle.pc_parser.proofs.Starts.{expression-begins, simple-begins}
 use Rattle.pc_parser.proofs.Onward.{inside, declarator-onward}
@@ -290,62 +294,79 @@ module _ (tokens : List Token) where
     ends-semicolon : (kind : Option TokenKind) → kind ≡ Some (kinds.Mark marks.Semicolon) → EndsDeclarator kind
     ends-semicolon kind is = record { follows = follows-semicolon kind is; assign_not = ap (is_mark marks.Assign) is }
 
-    declarator-named : (p symbol : ℕ) → kind_at tokens p ≡ Some (kinds.Name symbol) → declarator_at tokens b p ≡ declarator_on tokens b (Some symbol) p
+    declarator-named : (p symbol : ℕ) → kind_at tokens p ≡ Some (kinds.Name symbol) → declarator_at tokens b Automatic p ≡ declarator_on tokens b (Some symbol) p
     unfolding declarator_at symbol_of
     declarator-named p symbol is = ap (λ k. declarator_on tokens b (symbol_of k) p) is
 
-    finds-declarator : (p : ℕ) (s : SourceStatement) (h q : ℕ) → ReadsDeclarator tokens p s h q → EndsDeclarator (kind_at tokens q) → h ≤ b → declarator_at tokens b p ≡ Parsed s h q
-    unfolding declarator_on initialised array length_of
-    finds-declarator p s h q (ReadsDeclarator.scalar {symbol = symbol} is) ends fits =
+    finds-declarator : (storage : Storage) (p : ℕ) (s : SourceStatement) (h q : ℕ) → ReadsDeclarator tokens storage p s h q → EndsDeclarator (kind_at tokens q) → h ≤ b →
+        declarator_at tokens b storage p ≡ Parsed s h q
+    unfolding declarator_at declarator_on initialised array length_of
+    finds-declarator Static p s h q d ends fits = finds-fixed tokens p s h q d ends.assign_not
+    finds-declarator Automatic p s h q (ReadsDeclarator.scalar {symbol = symbol} is) ends fits =
         declarator-named p symbol is ∙ cond-no _ _ _ ends.assign_not ∙ cond-no _ _ _ ends.follows.bracket
-    finds-declarator p s h q (ReadsDeclarator.initialised {symbol = symbol} {height = i} {value = value} is assign d) ends fits =
+    finds-declarator Automatic p s h q (ReadsDeclarator.initialised {symbol = symbol} {height = i} {value = value} is assign d) ends fits =
         let some = expression-positive tokens (p + 2) value i q d in
         declarator-named p symbol is ∙ cond-yes _ _ _ (is_mark-of marks.Assign (kind_at tokens (p + 1)) assign) ∙ allowed-yes 2 b (p + 1) _ (omega arith) ∙
         after-parsed (expression_at tokens (b - 1) 0 (p + 2)) _ value i q (finds-expression tokens (b - 1) (p + 2) value i q d ends.follows (omega arith))
-    finds-declarator p s h q (ReadsDeclarator.array {symbol = symbol} {length = size} is open' number close') ends fits =
+    finds-declarator Automatic p s h q (ReadsDeclarator.array {symbol = symbol} {length = size} is open' number close') ends fits =
         declarator-named p symbol is ∙ cond-no _ _ _ (ap (is_mark marks.Assign) open') ∙ cond-yes _ _ _ (is_mark-of marks.LeftBracket (kind_at tokens (p + 1)) open') ∙
         ap (λ k. array tokens symbol p (length_of k)) number ∙ expect-yes tokens marks.RightBracket (p + 3) _ close'
 
-    declarator-positive : (p : ℕ) (s : SourceStatement) (h q : ℕ) → ReadsDeclarator tokens p s h q → 1 ≤ h
-    declarator-positive p s h q (ReadsDeclarator.scalar is) = omega arith
-    declarator-positive p s h q (ReadsDeclarator.initialised is assign d) = omega arith
-    declarator-positive p s h q (ReadsDeclarator.array is open' number close') = omega arith
+    declarator-positive : (storage : Storage) (p : ℕ) (s : SourceStatement) (h q : ℕ) → ReadsDeclarator tokens storage p s h q → 1 ≤ h
+    declarator-positive storage p s h q (ReadsDeclarator.scalar is) = omega arith
+    declarator-positive storage p s h q (ReadsDeclarator.initialised is assign d) = omega arith
+    declarator-positive storage p s h q (ReadsDeclarator.array is open' number close') = omega arith
+    declarator-positive storage p s h q (ReadsDeclarator.initialised_array is open' number close' assign brace d) = omega arith
 
-    declarators-positive : (p : ℕ) (trees : SourceList) (h q : ℕ) → ReadsDeclarators tokens p trees h q → 1 ≤ h
-    declarators-positive p trees h q (ReadsDeclarators.last {q = r} {tree = tree} d close') = declarator-positive p tree h r d
-    declarators-positive p trees h q (ReadsDeclarators.comma {i = i} {q = r} {tree = tree} d comma e) = let some = declarator-positive p tree i r d in omega arith
+    declarators-positive : (storage : Storage) (p : ℕ) (trees : SourceList) (h q : ℕ) → ReadsDeclarators tokens storage p trees h q → 1 ≤ h
+    declarators-positive storage p trees h q (ReadsDeclarators.last {q = r} {tree = tree} d close') = declarator-positive storage p tree h r d
+    declarators-positive storage p trees h q (ReadsDeclarators.comma {i = i} {q = r} {tree = tree} d comma e) = let some = declarator-positive storage p tree i r d in omega arith
 
-    declarator-inside : (p : ℕ) (s : SourceStatement) (h q : ℕ) → ReadsDeclarator tokens p s h q → p < length tokens
-    declarator-inside p s h q (ReadsDeclarator.scalar is) = inside tokens p _ is
-    declarator-inside p s h q (ReadsDeclarator.initialised is assign d) = inside tokens p _ is
-    declarator-inside p s h q (ReadsDeclarator.array is open' number close') = inside tokens p _ is
+    declarator-inside : (storage : Storage) (p : ℕ) (s : SourceStatement) (h q : ℕ) → ReadsDeclarator tokens storage p s h q → p < length tokens
+    declarator-inside storage p s h q (ReadsDeclarator.scalar is) = inside tokens p _ is
+    declarator-inside storage p s h q (ReadsDeclarator.initialised is assign d) = inside tokens p _ is
+    declarator-inside storage p s h q (ReadsDeclarator.array is open' number close') = inside tokens p _ is
+    declarator-inside storage p s h q (ReadsDeclarator.initialised_array is open' number close' assign brace d) = inside tokens p _ is
 
-    finds-declarators : (n p : ℕ) (trees : SourceList) (h q : ℕ) → ReadsDeclarators tokens p trees h q → length tokens < p + n → h ≤ b → declarators_at tokens b n p ≡ Parsed trees h q
+    finds-declarators : (storage : Storage) (n p : ℕ) (trees : SourceList) (h q : ℕ) → ReadsDeclarators tokens storage p trees h q → length tokens < p + n → h ≤ b →
+        declarators_at tokens b storage n p ≡ Parsed trees h q
     unfolding declarators_at last_declarator
-    finds-declarators zero p trees h q (ReadsDeclarators.last {q = r} {tree = tree} d close') enough fits = let a = declarator-inside p tree h r d in absurd (omega arith)
-    finds-declarators zero p trees h q (ReadsDeclarators.comma {i = i} {q = r} {tree = tree} d comma e) enough fits = let a = declarator-inside p tree i r d in absurd (omega arith)
-    finds-declarators (suc n) p trees h q (ReadsDeclarators.last {q = r} {tree = tree} d close') enough fits =
-        after-parsed (declarator_at tokens b p) _ tree h r (finds-declarator p tree h r d (ends-semicolon (kind_at tokens r) close') fits) ∙
+    finds-declarators storage zero p trees h q (ReadsDeclarators.last {q = r} {tree = tree} d close') enough fits = let a = declarator-inside storage p tree h r d in absurd (omega arith)
+    finds-declarators storage zero p trees h q (ReadsDeclarators.comma {i = i} {q = r} {tree = tree} d comma e) enough fits = let a = declarator-inside storage p tree i r d in absurd (omega arith)
+    finds-declarators storage (suc n) p trees h q (ReadsDeclarators.last {q = r} {tree = tree} d close') enough fits =
+        after-parsed (declarator_at tokens b storage p) _ tree h r (finds-declarator storage p tree h r d (ends-semicolon (kind_at tokens r) close') fits) ∙
         cond-no _ _ _ (ap (is_mark marks.Comma) close') ∙ expect-yes tokens marks.Semicolon r _ close'
-    finds-declarators (suc n) p trees h q (ReadsDeclarators.comma {i = i} {q = r} {j = j} {tree = tree} {rest = rest} d comma e) enough fits =
-        let onward = declarator-onward tokens p tree i r d in
-        after-parsed (declarator_at tokens b p) _ tree i r (finds-declarator p tree i r d (ends-comma (kind_at tokens r) comma) (omega arith)) ∙
+    finds-declarators storage (suc n) p trees h q (ReadsDeclarators.comma {i = i} {q = r} {j = j} {tree = tree} {rest = rest} d comma e) enough fits =
+        let onward = declarator-onward tokens storage p tree i r d in
+        after-parsed (declarator_at tokens b storage p) _ tree i r (finds-declarator storage p tree i r d (ends-comma (kind_at tokens r) comma) (omega arith)) ∙
         cond-yes _ _ _ (is_mark-of marks.Comma (kind_at tokens r) comma) ∙
-        after-parsed (declarators_at tokens b n (r + 1)) _ rest j q (finds-declarators n (r + 1) rest j q e (omega arith) (omega arith))
+        after-parsed (declarators_at tokens b storage n (r + 1)) _ rest j q (finds-declarators storage n (r + 1) rest j q e (omega arith) (omega arith))
 
-    pub finds-declaration : (p : ℕ) (trees : SourceList) (h q : ℕ) → ReadsDeclaration tokens p trees h q → h ≤ b → declaration_at tokens b p ≡ Parsed trees h q
+    pub finds-declaration : (p : ℕ) (trees : SourceList) (h q : ℕ) → ReadsDeclaration tokens Automatic p trees h q → h ≤ b → declaration_at tokens b p ≡ Parsed trees h q
     unfolding declaration_at
-    finds-declaration p trees h q (ReadsDeclaration.declaration is d) fits =
-        let some = declarators-positive (p + 1) trees h q d in
-        allowed-yes 1 b p _ (omega arith) ∙ finds-declarators (length tokens + 1) (p + 1) trees h q d (omega arith) fits
+    finds-declaration p trees h q (ReadsDeclaration.automatic is d) fits =
+        let some = declarators-positive Automatic (p + 1) trees h q d in
+        allowed-yes 1 b p _ (omega arith) ∙ finds-declarators Automatic (length tokens + 1) (p + 1) trees h q d (omega arith) fits
 
-    pub declaration-int : (p : ℕ) (trees : SourceList) (h q : ℕ) → ReadsDeclaration tokens p trees h q → kind_at tokens p ≡ Some (kinds.Key keys.Int)
-    declaration-int p trees h q (ReadsDeclaration.declaration is d) = is
+    pub finds-static : (p : ℕ) (trees : SourceList) (h q : ℕ) → ReadsDeclaration tokens Static p trees h q → h ≤ b → static_at tokens b p ≡ Parsed trees h q
+    unfolding static_at
+    finds-static p trees h q (ReadsDeclaration.static is int d) fits =
+        let some = declarators-positive Static (p + 2) trees h q d in
+        allowed-yes 1 b p _ (omega arith) ∙ expect_key-yes tokens keys.Int (p + 1) _ int ∙ finds-declarators Static (length tokens + 1) (p + 2) trees h q d (omega arith) fits
+
+    -- the keyword that a declaration begins with
+    abbrev pub first_key : Storage → Keyword
+    first_key Automatic = keys.Int
+    first_key Static = keys.Static
+
+    pub declaration-key : (storage : Storage) (p : ℕ) (trees : SourceList) (h q : ℕ) → ReadsDeclaration tokens storage p trees h q → kind_at tokens p ≡ Some (kinds.Key (first_key storage))
+    declaration-key storage p trees h q (ReadsDeclaration.automatic is d) = is
+    declaration-key storage p trees h q (ReadsDeclaration.static is int d) = is
 
     pub finds-first : (p : ℕ) (trees : SourceList) (h q : ℕ) → ReadsFirst tokens p trees h q → h ≤ b → first_at tokens b p ≡ Parsed trees h q
     unfolding first_at
     finds-first p trees h q (ReadsFirst.declared d) fits =
-        cond-yes _ _ _ (is_key-of keys.Int (kind_at tokens p) (declaration-int p trees h q d)) ∙ finds-declaration p trees h q d fits
+        cond-yes _ _ _ (is_key-of keys.Int (kind_at tokens p) (declaration-key Automatic p trees h q d)) ∙ finds-declaration p trees h q d fits
     finds-first p trees h q (ReadsFirst.simple {q = r} {tree = tree} d close') fits =
         let begins = simple-begins tokens p tree h r d in
         cond-no _ _ _ begins.begins.int_not ∙ cond-no _ _ _ begins.semicolon_not ∙ after-parsed (ended_at tokens b p) _ tree h (r + 1) (finds-ended p tree h r d close' fits)

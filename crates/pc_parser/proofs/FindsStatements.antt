@@ -8,6 +8,8 @@ use Rattle.pc_lexer.specs.declared.mark.Mark.TheVariants as marks
 use Rattle.pc_lexer.specs.declared.keyword.Keyword.TheVariants as keys
 use Rattle.pc_syntax.specs.Source.{SourceExpression, SourceStatement, SourceList, OptionalStatement, SourceProgram, Scope, Branch, WhileLoop, DoLoop, ForLoop, BreakOut, ContinueOn}
 use Rattle.pc_syntax.specs.Source.{ReturnFrom, Nothing, Absent, Present, No_more, More, appended}
+use Rattle.pc_parser.specs.declared.storage.Storage.{Storage}
+use Rattle.pc_parser.specs.declared.storage.Storage.TheVariants.{Automatic, Static}
 use Rattle.pc_parser.specs.Places.{kind_at, line_at}
 use Rattle.pc_parser.specs.models.Tests.{is_mark, is_key}
 use Rattle.pc_parser.specs.Statements.{ends_open, ReadsTest, ReadsSimple, ReadsDeclaration, ReadsFirst, ReadsCondition, ReadsStep, ReadsStatement, ReadsItems, ReadsProgram}
@@ -21,18 +23,22 @@ use Rattle.pc_parser.proofs.Finds.{allowed-yes, expect-yes, expect_key-yes, afte
 use Rattle.pc_parser.proofs.FindsExpressions.{follows-semicolon, finds-expression, expression-positive}
 use Rattle.pc_parser.proofs.Starts.{CanBegin, simple-begins, statement-begins}
 use Rattle.pc_parser.proofs.Onward.{inside, declaration-onward, statement-onward}
-use Rattle.pc_parser.proofs.FindsSimple.{finds-test, test-positive, finds-ended, finds-declaration, declaration-int, finds-first, finds-condition, finds-step}
+use Rattle.pc_parser.proofs.FindsSimple.{finds-test, test-positive, finds-ended, finds-declaration, finds-static, first_key, declaration-key, finds-first, finds-condition, finds-step}
 
 module _ (tokens : List Token) where
   -- what begins after a statement in a block is no `else`
   items-else : (p : ℕ) (trees : SourceList) (h q : ℕ) → ReadsItems tokens p trees h q → is_key keys.Else (kind_at tokens p) ≡ false
   items-else p trees h q (ReadsItems.close is) = ap (is_key keys.Else) is
-  items-else p trees h q (ReadsItems.declared {i = i} {q = r} {trees = some} d e) = ap (is_key keys.Else) (declaration-int tokens 0 p some i r d)
+  items-else p trees h q (ReadsItems.declared {storage = storage} {i = i} {q = r} {trees = some} d e) = ap (is_key keys.Else) (declaration-key tokens 0 storage p some i r d) ∙ no_else storage
+    where
+      no_else : (storage : Storage) → is_key keys.Else (Some (kinds.Key (first_key tokens 0 storage))) ≡ false
+      no_else Automatic = refl
+      no_else Static = refl
   items-else p trees h q (ReadsItems.stated {i = i} {q = r} {tree = tree} d e) = (statement-begins tokens p tree i r d).else_not
 
   items-inside : (p : ℕ) (trees : SourceList) (h q : ℕ) → ReadsItems tokens p trees h q → p < length tokens
   items-inside p trees h q (ReadsItems.close is) = inside tokens p _ is
-  items-inside p trees h q (ReadsItems.declared {i = i} {q = r} {trees = some} d e) = inside tokens p _ (declaration-int tokens 0 p some i r d)
+  items-inside p trees h q (ReadsItems.declared {storage = storage} {i = i} {q = r} {trees = some} d e) = inside tokens p _ (declaration-key tokens 0 storage p some i r d)
   items-inside p trees h q (ReadsItems.stated {i = i} {q = r} {j = j} {tree = tree} {rest = rest} d e) =
       let a = items-inside r rest j q e in let b = statement-onward tokens p tree i r d in omega arith
 
@@ -157,13 +163,21 @@ module _ (tokens : List Token) where
     unfolding items_at
     closes-items n p is = cond-yes _ _ _ (is_mark-of marks.RightBrace (kind_at tokens p) is)
 
-    declares-item : (n p : ℕ) (trees rest : SourceList) (i q j to : ℕ) → ReadsDeclaration tokens p trees i q → i ≤ b - 1 → items_at tokens (statement_below tokens b) b n q ≡ Parsed rest j to →
+    declared-item : (storage : Storage) (p : ℕ) (trees : SourceList) (i q : ℕ) → ReadsDeclaration tokens storage p trees i q → i ≤ b - 1 →
+        item_at tokens (statement_below tokens b) b p ≡ Parsed trees i q
+    unfolding item_at
+    declared-item Automatic p trees i q d fits =
+        cond-yes _ _ _ (is_key-of keys.Int (kind_at tokens p) (declaration-key tokens 0 Automatic p trees i q d)) ∙ finds-declaration tokens (b - 1) p trees i q d fits
+    declared-item Static p trees i q d fits =
+        let is = declaration-key tokens 0 Static p trees i q d in
+        cond-no _ _ _ (ap (is_key keys.Int) is) ∙ cond-yes _ _ _ (is_key-of keys.Static (kind_at tokens p) is) ∙ finds-static tokens (b - 1) p trees i q d fits
+
+    declares-item : (storage : Storage) (n p : ℕ) (trees rest : SourceList) (i q j to : ℕ) → ReadsDeclaration tokens storage p trees i q → i ≤ b - 1 → items_at tokens (statement_below tokens b) b n q ≡ Parsed rest j to →
         items_at tokens (statement_below tokens b) b (suc n) p ≡ Parsed (appended trees rest) (max i j) to
-    unfolding items_at item_at
-    declares-item n p trees rest i q j to d fits found =
-        let int = declaration-int tokens 0 p trees i q d in
-        cond-no _ _ _ (ap (is_mark marks.RightBrace) int) ∙
-        after-parsed (item_at tokens (statement_below tokens b) b p) _ trees i q (cond-yes _ _ _ (is_key-of keys.Int (kind_at tokens p) int) ∙ finds-declaration tokens (b - 1) p trees i q d fits) ∙
+    unfolding items_at
+    declares-item storage n p trees rest i q j to d fits found =
+        cond-no _ _ _ (ap (is_mark marks.RightBrace) (declaration-key tokens 0 storage p trees i q d)) ∙
+        after-parsed (item_at tokens (statement_below tokens b) b p) _ trees i q (declared-item storage p trees i q d fits) ∙
         after-parsed (items_at tokens (statement_below tokens b) b n q) _ rest j to found
 
     states-item : (n p : ℕ) (tree : SourceStatement) (rest : SourceList) (i q j to : ℕ) → CanBegin (kind_at tokens p) → statement_at tokens (b - 1) p ≡ Parsed tree i q →
@@ -173,7 +187,7 @@ module _ (tokens : List Token) where
     states-item n p tree rest i q j to begins one some found =
         cond-no _ _ _ begins.brace_not ∙
         after-parsed (item_at tokens (statement_below tokens b) b p) _ (More tree No_more) i q
-        (cond-no _ _ _ begins.int_not ∙ after-parsed (statement_below tokens b p) _ tree i q (inner p tree i q some one)) ∙
+        (cond-no _ _ _ begins.int_not ∙ cond-no _ _ _ begins.static_not ∙ after-parsed (statement_below tokens b p) _ tree i q (inner p tree i q some one)) ∙
         after-parsed (items_at tokens (statement_below tokens b) b n q) _ rest j to found
 
   mutual
@@ -204,9 +218,9 @@ module _ (tokens : List Token) where
         items_at tokens (statement_below tokens b) b n p ≡ Parsed trees h q
     finds-items b zero p trees h q d enough fits some = let a = items-inside p trees h q d in absurd (omega arith)
     finds-items b (suc n) p trees h q (ReadsItems.close is) enough fits some = closes-items b n p is
-    finds-items b (suc n) p trees h q (ReadsItems.declared {i = i} {q = r} {j = j} {trees = some'} {rest = rest} d e) enough fits some =
-        let onward = declaration-onward tokens p some' i r d in
-        declares-item b n p some' rest i r j q d (omega arith) (finds-items b n r rest j q e (omega arith) (omega arith) some)
+    finds-items b (suc n) p trees h q (ReadsItems.declared {storage = storage} {i = i} {q = r} {j = j} {trees = some'} {rest = rest} d e) enough fits some =
+        let onward = declaration-onward tokens storage p some' i r d in
+        declares-item b storage n p some' rest i r j q d (omega arith) (finds-items b n r rest j q e (omega arith) (omega arith) some)
     finds-items b (suc n) p trees h q (ReadsItems.stated {i = i} {q = r} {j = j} {tree = tree} {rest = rest} d e) enough fits some =
         let onward = statement-onward tokens p tree i r d in
         states-item b n p tree rest i r j q (statement-begins tokens p tree i r d)

@@ -1,5 +1,5 @@
 -- What the parser of simple statements and declarations gives is what the grammar reads.
-use Rattle.std.proofs.Common.{◌≡◌, refl, ap, ◌∙◌, subst, ℕ, ℤ, zero, suc, pos, negsuc, ◌+◌, ◌-◌, ◌≤◌, List, length, arith}
+use Rattle.std.proofs.Common.{◌≡◌, refl, ap, ◌∙◌, subst, ℕ, zero, suc, ◌+◌, ◌-◌, ◌≤◌, List, length, arith}
 use Rattle.std.specs.Prelude.{Option, Some, None}
 use Rattle.pc_lexer.specs.declared.token.Token.{Token}
 use Rattle.pc_lexer.specs.declared.token.TokenKind.{TokenKind}
@@ -9,6 +9,8 @@ use Rattle.pc_lexer.specs.declared.mark.Mark.TheVariants as marks
 use Rattle.pc_lexer.specs.declared.keyword.Keyword.TheVariants as keys
 use Rattle.pc_syntax.specs.declared.operator.BinaryOp.{BinaryOp}
 use Rattle.pc_syntax.specs.Source.{SourceExpression, SourceStatement, SourceList, OptionalStatement, Present, No_more, More}
+use Rattle.pc_parser.specs.declared.storage.Storage.{Storage}
+use Rattle.pc_parser.specs.declared.storage.Storage.TheVariants.{Automatic, Static}
 use Rattle.pc_parser.specs.Places.{kind_at}
 use Rattle.pc_parser.specs.models.Tests.{key_is}
 use Rattle.pc_parser.specs.Operators.{assignment_of, step_of}
@@ -16,15 +18,16 @@ use Rattle.pc_parser.specs.Expressions.{ReadsUnary}
 use Rattle.pc_parser.specs.Statements.{Target, ReadsTest, ReadsSimple, ReadsDeclarator, ReadsDeclarators, ReadsDeclaration, ReadsFirst, ReadsCondition, ReadsStep}
 use Rattle.pc_parser.specs.models.Outcome.{ParseOutcome, Parsed, Unreadable, TooHigh}
 use Rattle.pc_parser.specs.models.ExpressionParser.{target_tree, target_height, climb, choice, expression_at, below}
-use Rattle.pc_parser.specs.models.StatementParser.{assignment_from, step_from, symbol_of, length_of, natural, name_budget, parenthesized_at, closed_behind, closed, target_on, target_at, evaluation}
+use Rattle.pc_parser.specs.models.StatementParser.{assignment_from, step_from, symbol_of, length_of, name_budget, parenthesized_at, closed_behind, closed, target_on, target_at, evaluation}
 use Rattle.pc_parser.specs.models.StatementParser.{evaluation_from, print_at, step_before, assignment, behind_target, on_target, named, marked, simple_on, simple_at, ended_at, array}
-use Rattle.pc_parser.specs.models.StatementParser.{initialised, declarator_on, declarator_at, last_declarator, declarators_at, declaration_at, first_at, condition_at, step_at}
+use Rattle.pc_parser.specs.models.StatementParser.{initialised, declarator_on, declarator_at, last_declarator, fixed_on, declarators_at, declaration_at, static_at, first_at, condition_at, step_at}
 use Rattle.pc_parser.proofs.Tokens.{key_is-true}
 use Rattle.pc_parser.proofs.Onward.{inside, simple-onward, declarators-onward}
-use Rattle.pc_parser.proofs.Holds.{Good, after-good, cond-good, allowed-good, expect-good, on_mark-good, on_key-good}
+use Rattle.pc_parser.proofs.Holds.{Good, after-good, cond-good, allowed-good, expect-good, expect_key-good, on_mark-good, on_key-good}
+use Rattle.pc_parser.proofs.HoldsArrays.{symbol-is, length-is, IsFixed, fixed_on-holds}
 use Rattle.pc_parser.proofs.HoldsExpressions.{Sound, IsTarget, IsUnary, fresh, target-primary, target-height-low, target_named-holds, climb-holds, choice-holds, expression_at-holds, below-holds}
 
--- what assigns, steps, is a name or a length
+-- what assigns and steps
 assignment-is : (kind : Option TokenKind) (op : Option BinaryOp) → assignment_from kind ≡ Some op → (mark : Mark) × (kind ≡ Some (kinds.Mark mark)) × (assignment_of mark ≡ Some op)
 unfolding assignment_from
 assignment-is (Some (kinds.Mark mark)) op is = (mark, refl, is)
@@ -40,26 +43,6 @@ step-is (Some (kinds.Key key)) op is = cc
 step-is (Some (kinds.Name symbol)) op is = cc
 step-is (Some (kinds.Number value)) op is = cc
 step-is None op is = cc
-
-symbol-is : (kind : Option TokenKind) (symbol : ℕ) → symbol_of kind ≡ Some symbol → kind ≡ Some (kinds.Name symbol)
-unfolding symbol_of
-symbol-is (Some (kinds.Name found)) symbol is = let same : found ≡ symbol = cc in ap (λ s. Some (kinds.Name s)) same
-symbol-is (Some (kinds.Number value)) symbol is = cc
-symbol-is (Some (kinds.Key key)) symbol is = cc
-symbol-is (Some (kinds.Mark mark)) symbol is = cc
-symbol-is None symbol is = cc
-
-natural-is : (value : ℤ) (size : ℕ) → natural value ≡ Some size → value ≡ pos size
-natural-is (pos found) size is = let same : found ≡ size = cc in ap pos same
-natural-is (negsuc found) size is = cc
-
-length-is : (kind : Option TokenKind) (size : ℕ) → length_of kind ≡ Some size → kind ≡ Some (kinds.Number (pos size))
-unfolding length_of
-length-is (Some (kinds.Number value)) size is = ap (λ v. Some (kinds.Number v)) (natural-is value size is)
-length-is (Some (kinds.Name found)) size is = cc
-length-is (Some (kinds.Key key)) size is = cc
-length-is (Some (kinds.Mark mark)) size is = cc
-length-is None size is = cc
 
 module _ (tokens : List Token) where
   pub record IsTest (b p : ℕ) (t : SourceExpression) (h q : ℕ) : Type 0 where
@@ -216,19 +199,19 @@ module _ (tokens : List Token) where
     ended_at-holds p within = closed-holds marks.Semicolon b p (b - 1 + p) (simple_at tokens b p) (omega arith) (simple_at-holds p within)
 
   -- a tree of a list, of at most the budget's height, that ends among the tokens
-  pub record IsDeclarator (b p : ℕ) (s : SourceStatement) (h q : ℕ) : Type 0 where
-    pub reads : ReadsDeclarator tokens p s h q
+  pub record IsDeclarator (storage : Storage) (b p : ℕ) (s : SourceStatement) (h q : ℕ) : Type 0 where
+    pub reads : ReadsDeclarator tokens storage p s h q
     pub low : h ≤ b
     pub within : q ≤ length tokens
     pub onward : p ≤ q
 
-  pub record IsDeclarators (b p : ℕ) (trees : SourceList) (h q : ℕ) : Type 0 where
-    pub reads : ReadsDeclarators tokens p trees h q
+  pub record IsDeclarators (storage : Storage) (b p : ℕ) (trees : SourceList) (h q : ℕ) : Type 0 where
+    pub reads : ReadsDeclarators tokens storage p trees h q
     pub low : h ≤ b
     pub within : q ≤ length tokens
 
-  pub record IsDeclaration (b p : ℕ) (trees : SourceList) (h q : ℕ) : Type 0 where
-    pub reads : ReadsDeclaration tokens p trees h q
+  pub record IsDeclaration (storage : Storage) (b p : ℕ) (trees : SourceList) (h q : ℕ) : Type 0 where
+    pub reads : ReadsDeclaration tokens storage p trees h q
     pub low : h ≤ b
     pub within : q ≤ length tokens
     pub onward : p ≤ q
@@ -253,65 +236,88 @@ module _ (tokens : List Token) where
 
   array-holds : (b symbol p : ℕ) (size : Option ℕ) → 1 ≤ b → kind_at tokens p ≡ Some (kinds.Name symbol) → kind_at tokens (p + 1) ≡ Some (kinds.Mark marks.LeftBracket) →
       length_of (kind_at tokens (p + 2)) ≡ size →
-      Good (length tokens) (b - 1 + p) (IsDeclarator b p) (array tokens symbol p size)
+      Good (length tokens) (b - 1 + p) (IsDeclarator Automatic b p) (array tokens symbol p size)
   unfolding array
   array-holds b symbol p (Some size) some is open' found =
       let number = length-is (kind_at tokens (p + 2)) size found in
       let within = inside tokens (p + 2) _ number in
-      expect-good tokens (b - 1 + p) marks.RightBracket (p + 3) (IsDeclarator b p) _ (omega arith)
+      expect-good tokens (b - 1 + p) marks.RightBracket (p + 3) (IsDeclarator Automatic b p) _ (omega arith)
       (λ close' below'. record { reads = ReadsDeclarator.array is open' number close'; low = some; within = omega arith; onward = omega arith })
   array-holds b symbol p None some is open' found = let within = inside tokens (p + 1) _ open' in omega arith
 
   module _ (b : ℕ) (some : 1 ≤ b) where
     initialised-holds : (symbol p : ℕ) → kind_at tokens p ≡ Some (kinds.Name symbol) → kind_at tokens (p + 1) ≡ Some (kinds.Mark marks.Assign) →
-        Good (length tokens) (b - 1 + p) (IsDeclarator b p) (initialised tokens b symbol p)
+        Good (length tokens) (b - 1 + p) (IsDeclarator Automatic b p) (initialised tokens b symbol p)
     unfolding initialised
     initialised-holds symbol p is assign =
         let within = inside tokens (p + 1) _ assign in
-        allowed-good (length tokens) (b - 1 + p) 2 b (p + 1) (IsDeclarator b p) _ (λ high. omega arith) (omega arith) (λ low.
-        after-good (length tokens) (b - 1 + p) (b - 1 + (p + 2)) (Sound tokens (b - 1) 0 (p + 2)) (IsDeclarator b p) (expression_at tokens (b - 1) 0 (p + 2)) _
+        allowed-good (length tokens) (b - 1 + p) 2 b (p + 1) (IsDeclarator Automatic b p) _ (λ high. omega arith) (omega arith) (λ low.
+        after-good (length tokens) (b - 1 + p) (b - 1 + (p + 2)) (Sound tokens (b - 1) 0 (p + 2)) (IsDeclarator Automatic b p) (expression_at tokens (b - 1) 0 (p + 2)) _
         (omega arith) (expression_at-holds tokens (b - 1) 0 (p + 2) (omega arith) (omega arith)) (λ t h q sound.
         let size = sound.size in let a = size.low in let l = size.long in
         record { reads = ReadsDeclarator.initialised is assign (sound.whole refl); low = omega arith; within = size.within; onward = omega arith }))
 
-    declarator_at-holds : (p : ℕ) → p ≤ length tokens → Good (length tokens) (b - 1 + p) (IsDeclarator b p) (declarator_at tokens b p)
+    declarator_at-holds : (storage : Storage) (p : ℕ) → p ≤ length tokens → Good (length tokens) (b - 1 + p) (IsDeclarator storage b p) (declarator_at tokens b storage p)
     unfolding declarator_at declarator_on
-    declarator_at-holds p within = by (symbol_of (kind_at tokens p)) refl
+    declarator_at-holds Static p within =
+        weaker (fixed_on tokens (symbol_of (kind_at tokens p)) p) (fixed_on-holds tokens (b - 1 + p) p (symbol_of (kind_at tokens p)) within refl)
       where
-        by : (symbol : Option ℕ) → symbol_of (kind_at tokens p) ≡ symbol → Good (length tokens) (b - 1 + p) (IsDeclarator b p) (declarator_on tokens b symbol p)
+        weaker : (o : ParseOutcome SourceStatement) → Good (length tokens) (b - 1 + p) (IsFixed tokens p) o → Good (length tokens) (b - 1 + p) (IsDeclarator Static b p) o
+        weaker (Parsed s h q) good = let one = good.one in record { reads = good.reads; low = omega arith; within = good.within; onward = good.onward }
+        weaker (Unreadable at) good = good
+        weaker (TooHigh at) good = good
+    declarator_at-holds Automatic p within = by (symbol_of (kind_at tokens p)) refl
+      where
+        by : (symbol : Option ℕ) → symbol_of (kind_at tokens p) ≡ symbol → Good (length tokens) (b - 1 + p) (IsDeclarator Automatic b p) (declarator_on tokens b symbol p)
         by (Some symbol) found =
             let is = symbol-is (kind_at tokens p) symbol found in
             let here = inside tokens p _ is in
-            on_mark-good tokens (b - 1 + p) marks.Assign (p + 1) (IsDeclarator b p) _ _ (λ assign below'. initialised-holds symbol p is assign) (λ no'.
-            on_mark-good tokens (b - 1 + p) marks.LeftBracket (p + 1) (IsDeclarator b p) _ _ (λ open' below'. array-holds b symbol p (length_of (kind_at tokens (p + 2))) some is open' refl) (λ no''.
+            on_mark-good tokens (b - 1 + p) marks.Assign (p + 1) (IsDeclarator Automatic b p) _ _ (λ assign below'. initialised-holds symbol p is assign) (λ no'.
+            on_mark-good tokens (b - 1 + p) marks.LeftBracket (p + 1) (IsDeclarator Automatic b p) _ _ (λ open' below'. array-holds b symbol p (length_of (kind_at tokens (p + 2))) some is open' refl) (λ no''.
             record { reads = ReadsDeclarator.scalar is; low = some; within = omega arith; onward = omega arith }))
         by None found = within
 
-    declarators_at-holds : (n p : ℕ) → p ≤ length tokens → Good (length tokens) (b - 1 + p) (IsDeclarators b p) (declarators_at tokens b n p)
+    declarators_at-holds : (storage : Storage) (n p : ℕ) → p ≤ length tokens → Good (length tokens) (b - 1 + p) (IsDeclarators storage b p) (declarators_at tokens b storage n p)
     unfolding declarators_at last_declarator
-    declarators_at-holds zero p within = within
-    declarators_at-holds (suc n) p within =
-        after-good (length tokens) (b - 1 + p) (b - 1 + p) (IsDeclarator b p) (IsDeclarators b p) (declarator_at tokens b p) _ (omega arith) (declarator_at-holds p within) (λ s h q first.
+    declarators_at-holds storage zero p within = within
+    declarators_at-holds storage (suc n) p within =
+        after-good (length tokens) (b - 1 + p) (b - 1 + p) (IsDeclarator storage b p) (IsDeclarators storage b p) (declarator_at tokens b storage p) _ (omega arith)
+        (declarator_at-holds storage p within) (λ s h q first.
         let low' = first.low in let onward' = first.onward in
-        on_mark-good tokens (b - 1 + p) marks.Comma q (IsDeclarators b p) _ _
-        (λ comma below'. after-good (length tokens) (b - 1 + p) (b - 1 + (q + 1)) (IsDeclarators b (q + 1)) (IsDeclarators b p) (declarators_at tokens b n (q + 1)) _
-        (omega arith) (declarators_at-holds n (q + 1) (omega arith)) (λ rest j to others.
+        on_mark-good tokens (b - 1 + p) marks.Comma q (IsDeclarators storage b p) _ _
+        (λ comma below'. after-good (length tokens) (b - 1 + p) (b - 1 + (q + 1)) (IsDeclarators storage b (q + 1)) (IsDeclarators storage b p) (declarators_at tokens b storage n (q + 1)) _
+        (omega arith) (declarators_at-holds storage n (q + 1) (omega arith)) (λ rest j to others.
         let low'' = others.low in record { reads = ReadsDeclarators.comma first.reads comma others.reads; low = omega arith; within = others.within }))
-        (λ no'. expect-good tokens (b - 1 + p) marks.Semicolon q (IsDeclarators b p) _ first.within
+        (λ no'. expect-good tokens (b - 1 + p) marks.Semicolon q (IsDeclarators storage b p) _ first.within
         (λ close' below'. record { reads = ReadsDeclarators.last first.reads close'; low = low'; within = omega arith })))
 
-  pub declaration_at-holds : (b p : ℕ) → kind_at tokens p ≡ Some (kinds.Key keys.Int) → Good (length tokens) (b - 1 + p) (IsDeclaration b p) (declaration_at tokens b p)
+  pub declaration_at-holds : (b p : ℕ) → kind_at tokens p ≡ Some (kinds.Key keys.Int) → Good (length tokens) (b - 1 + p) (IsDeclaration Automatic b p) (declaration_at tokens b p)
   unfolding declaration_at
   declaration_at-holds b p is =
       let within = inside tokens p _ is in
-      allowed-good (length tokens) (b - 1 + p) 1 b p (IsDeclaration b p) _ (λ high. omega arith) (omega arith) (λ low.
-      weaker low (declarators_at tokens b (length tokens + 1) (p + 1)) (declarators_at-holds b low (length tokens + 1) (p + 1) (omega arith)))
+      allowed-good (length tokens) (b - 1 + p) 1 b p (IsDeclaration Automatic b p) _ (λ high. omega arith) (omega arith) (λ low.
+      weaker low (declarators_at tokens b Automatic (length tokens + 1) (p + 1)) (declarators_at-holds b low Automatic (length tokens + 1) (p + 1) (omega arith)))
     where
-      weaker : 1 ≤ b → (o : ParseOutcome SourceList) → Good (length tokens) (b - 1 + (p + 1)) (IsDeclarators b (p + 1)) o → Good (length tokens) (b - 1 + p) (IsDeclaration b p) o
-      weaker low (Parsed t h q) good = let onward = declarators-onward tokens (p + 1) t h q good.reads in
-          record { reads = ReadsDeclaration.declaration is good.reads; low = good.low; within = good.within; onward = omega arith }
+      weaker : 1 ≤ b → (o : ParseOutcome SourceList) → Good (length tokens) (b - 1 + (p + 1)) (IsDeclarators Automatic b (p + 1)) o → Good (length tokens) (b - 1 + p) (IsDeclaration Automatic b p) o
+      weaker low (Parsed t h q) good = let onward = declarators-onward tokens Automatic (p + 1) t h q good.reads in
+          record { reads = ReadsDeclaration.automatic is good.reads; low = good.low; within = good.within; onward = omega arith }
       weaker low (Unreadable at) good = good
       weaker low (TooHigh at) good = let a = good.0 in (omega arith, good.1)
+
+  pub static_at-holds : (b p : ℕ) → kind_at tokens p ≡ Some (kinds.Key keys.Static) → Good (length tokens) (b - 1 + p) (IsDeclaration Static b p) (static_at tokens b p)
+  unfolding static_at
+  static_at-holds b p is =
+      let within = inside tokens p _ is in
+      allowed-good (length tokens) (b - 1 + p) 1 b p (IsDeclaration Static b p) _ (λ high. omega arith) (omega arith) (λ low.
+      expect_key-good tokens (b - 1 + p) keys.Int (p + 1) (IsDeclaration Static b p) _ (omega arith) (λ int below'.
+      weaker int (declarators_at tokens b Static (length tokens + 1) (p + 2)) (declarators_at-holds b low Static (length tokens + 1) (p + 2) (omega arith))))
+    where
+      weaker : kind_at tokens (p + 1) ≡ Some (kinds.Key keys.Int) → (o : ParseOutcome SourceList) → Good (length tokens) (b - 1 + (p + 2)) (IsDeclarators Static b (p + 2)) o →
+          Good (length tokens) (b - 1 + p) (IsDeclaration Static b p) o
+      weaker int (Parsed t h q) good = let onward = declarators-onward tokens Static (p + 2) t h q good.reads in
+          record { reads = ReadsDeclaration.static is int good.reads; low = good.low; within = good.within; onward = omega arith }
+      weaker int (Unreadable at) good = good
+      weaker int (TooHigh at) good = let a = good.0 in (omega arith, good.1)
 
   pub first_at-holds : (b p : ℕ) → p ≤ length tokens → Good (length tokens) (b - 1 + p) (FirstPart b p) (first_at tokens b p)
   unfolding first_at
@@ -323,7 +329,7 @@ module _ (tokens : List Token) where
       let onward = simple-onward tokens p s h closed'.at closed'.reads in let is = closed'.is in
       record { reads = subst (ReadsFirst tokens p (More s No_more) h) closed'.is (ReadsFirst.simple closed'.reads closed'.behind); low = closed'.low; within = closed'.within; onward = omega arith })))
     where
-      weaker : (o : ParseOutcome SourceList) → Good (length tokens) (b - 1 + p) (IsDeclaration b p) o → Good (length tokens) (b - 1 + p) (FirstPart b p) o
+      weaker : (o : ParseOutcome SourceList) → Good (length tokens) (b - 1 + p) (IsDeclaration Automatic b p) o → Good (length tokens) (b - 1 + p) (FirstPart b p) o
       weaker (Parsed t h q) good = record { reads = ReadsFirst.declared good.reads; low = good.low; within = good.within; onward = good.onward }
       weaker (Unreadable at) good = good
       weaker (TooHigh at) good = good

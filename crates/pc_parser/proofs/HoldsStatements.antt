@@ -9,12 +9,14 @@ use Rattle.pc_lexer.specs.declared.mark.Mark.TheVariants as marks
 use Rattle.pc_lexer.specs.declared.keyword.Keyword.{Keyword}
 use Rattle.pc_lexer.specs.declared.keyword.Keyword.TheVariants as keys
 use Rattle.pc_syntax.specs.Source.{SourceExpression, SourceStatement, SourceList, Scope, BreakOut, ContinueOn, No_more, More, appended}
+use Rattle.pc_parser.specs.declared.storage.Storage.{Storage}
+use Rattle.pc_parser.specs.declared.storage.Storage.TheVariants.{Automatic, Static}
 use Rattle.pc_parser.specs.Places.{kind_at, line_at}
 use Rattle.pc_parser.specs.models.Tests.{is_key, mark_is, key_is}
 use Rattle.pc_parser.specs.Statements.{ends_open, ReadsSimple, ReadsStatement, ReadsItems, ReadsProgram}
 use Rattle.pc_parser.specs.models.Outcome.{ParseOutcome, Parsed, Unreadable, TooHigh, after}
 use Rattle.pc_parser.specs.models.ExpressionParser.{expression_at}
-use Rattle.pc_parser.specs.models.StatementParser.{parenthesized_at, ended_at, declaration_at, first_at, condition_at, step_at, item_at, items_at, block_at, otherwise_at, branch_at, while_at, do_at}
+use Rattle.pc_parser.specs.models.StatementParser.{parenthesized_at, ended_at, declaration_at, static_at, first_at, condition_at, step_at, item_at, items_at, block_at, otherwise_at, branch_at, while_at, do_at}
 use Rattle.pc_parser.specs.models.StatementParser.{for_body, for_at, lone, return_at, keyed, started, statement_on, statement_from, statement_at, statement_below, nothing_behind, main_block}
 use Rattle.pc_parser.specs.models.StatementParser.{program_at}
 use Rattle.pc_parser.proofs.Tokens.{is_key-of, mark_is-true, key_is-true}
@@ -22,7 +24,7 @@ use Rattle.pc_parser.proofs.Finds.{false_from}
 use Rattle.pc_parser.proofs.Onward.{inside, test-onward, simple-onward, items-onward}
 use Rattle.pc_parser.proofs.Holds.{Good, after-good, cond-good, allowed-good, expect-good, expect_key-good, on_mark-good, on_key-good}
 use Rattle.pc_parser.proofs.HoldsExpressions.{Sound, expression_at-holds}
-use Rattle.pc_parser.proofs.HoldsSimple.{IsTest, IsClosed, IsDeclaration, FirstPart, IsCondition, IsStep, parenthesized_at-holds, ended_at-holds, declaration_at-holds, first_at-holds}
+use Rattle.pc_parser.proofs.HoldsSimple.{IsTest, IsClosed, IsDeclaration, FirstPart, IsCondition, IsStep, parenthesized_at-holds, ended_at-holds, declaration_at-holds, static_at-holds, first_at-holds}
 use Rattle.pc_parser.proofs.HoldsSimple.{condition_at-holds, step_at-holds}
 
 module _ (tokens : List Token) where
@@ -49,7 +51,7 @@ module _ (tokens : List Token) where
 
   -- a declaration, or a statement
   data IsItem (b p : ℕ) : (trees : SourceList) → (h q : ℕ) → Type 0 where
-    declared : {trees : SourceList} {h q : ℕ} → IsDeclaration tokens b p trees h q → IsItem b p trees h q
+    declared : {storage : Storage} {trees : SourceList} {h q : ℕ} → IsDeclaration tokens storage b p trees h q → IsItem b p trees h q
     stated : {tree : SourceStatement} {h q : ℕ} → IsStatement b p tree h q → IsItem b p (More tree No_more) h q
 
   simple-shut : (p : ℕ) (s : SourceStatement) (h q : ℕ) → ReadsSimple tokens p s h q → ends_open s ≡ false
@@ -75,13 +77,14 @@ module _ (tokens : List Token) where
     item_at-holds : (p : ℕ) → 1 ≤ b → p ≤ length tokens → Good (length tokens) (b - 1 - 1 + p) (IsItem (b - 1) p) (item_at tokens inner b p)
     unfolding item_at
     item_at-holds p some within =
-        on_key-good tokens (b - 1 - 1 + p) keys.Int p (IsItem (b - 1) p) _ _ (λ int below'. weaker (declaration_at tokens (b - 1) p) (declaration_at-holds tokens (b - 1) p int)) (λ no'.
-        after-good (length tokens) (b - 1 - 1 + p) (b - 1 - 1 + p) (IsStatement (b - 1) p) (IsItem (b - 1) p) (inner p) _ (omega arith) (holds p within) (λ s h q good. IsItem.stated good))
+        on_key-good tokens (b - 1 - 1 + p) keys.Int p (IsItem (b - 1) p) _ _ (λ int below'. weaker Automatic (declaration_at tokens (b - 1) p) (declaration_at-holds tokens (b - 1) p int)) (λ no'.
+        on_key-good tokens (b - 1 - 1 + p) keys.Static p (IsItem (b - 1) p) _ _ (λ static below'. weaker Static (static_at tokens (b - 1) p) (static_at-holds tokens (b - 1) p static)) (λ no''.
+        after-good (length tokens) (b - 1 - 1 + p) (b - 1 - 1 + p) (IsStatement (b - 1) p) (IsItem (b - 1) p) (inner p) _ (omega arith) (holds p within) (λ s h q good. IsItem.stated good)))
       where
-        weaker : (o : ParseOutcome SourceList) → Good (length tokens) (b - 1 - 1 + p) (IsDeclaration tokens (b - 1) p) o → Good (length tokens) (b - 1 - 1 + p) (IsItem (b - 1) p) o
-        weaker (Parsed t h q) good = IsItem.declared good
-        weaker (Unreadable at) good = good
-        weaker (TooHigh at) good = good
+        weaker : (storage : Storage) (o : ParseOutcome SourceList) → Good (length tokens) (b - 1 - 1 + p) (IsDeclaration tokens storage (b - 1) p) o → Good (length tokens) (b - 1 - 1 + p) (IsItem (b - 1) p) o
+        weaker storage (Parsed t h q) good = IsItem.declared good
+        weaker storage (Unreadable at) good = good
+        weaker storage (TooHigh at) good = good
 
     item-inside : (p : ℕ) (trees : SourceList) (h q : ℕ) → IsItem (b - 1) p trees h q → (q ≤ length tokens) × (p ≤ q) × (h ≤ b - 1)
     item-inside p trees h q (IsItem.declared good) = (good.within, good.onward, good.low)

@@ -6,6 +6,7 @@ use Rattle.pc_lexer.specs.declared.mark.Mark.TheVariants as marks
 use Rattle.pc_syntax.specs.Source.{SourceStatement, SourceList, No_more, More, appended}
 use Rattle.pc_parser.specs.declared.outcome.Failure.{Failure}
 use Rattle.pc_parser.specs.declared.outcome.Failure.TheVariants as failures
+use Rattle.pc_parser.specs.declared.storage.Storage.{Storage}
 use Rattle.pc_parser.specs.Places.{kind_at}
 use Rattle.pc_parser.specs.models.Tests.{is_mark}
 use Rattle.pc_parser.specs.models.Outcome.{ParseOutcome, Parsed, Unreadable, TooHigh, after, expect}
@@ -44,23 +45,23 @@ gathered-more front more height raised (Parsed rest other to) =
 gathered-more front more height raised (Unreadable at) = refl
 gathered-more front more height raised (TooHigh at) = refl
 
-module _ (tokens : List Token) (budget : ℕ) where
+module _ (tokens : List Token) (budget : ℕ) (storage : Storage) where
   -- the declarators so far, and what goes on after them
   abbrev pub continued : SourceList → (height at turns : ℕ) → ParseOutcome SourceList
   continued front height at turns =
-      cond (is_mark marks.Comma (kind_at tokens at)) (gathered front height (declarators_at tokens budget turns (at + 1)))
+      cond (is_mark marks.Comma (kind_at tokens at)) (gathered front height (declarators_at tokens budget storage turns (at + 1)))
       (expect tokens marks.Semicolon at (Parsed front height (at + 1)))
 
   -- one more declarator
-  pub declarators-turn : (front : SourceList) (height turns p : ℕ) (tree : SourceStatement) (raised at : ℕ) → 1 ≤ turns → declarator_at tokens budget p ≡ Parsed tree raised at →
-      gathered front height (declarators_at tokens budget turns p) ≡ continued (appended front (More tree No_more)) (max height raised) at (turns - 1)
+  pub declarators-turn : (front : SourceList) (height turns p : ℕ) (tree : SourceStatement) (raised at : ℕ) → 1 ≤ turns → declarator_at tokens budget storage p ≡ Parsed tree raised at →
+      gathered front height (declarators_at tokens budget storage turns p) ≡ continued (appended front (More tree No_more)) (max height raised) at (turns - 1)
   unfolding declarators_at last_declarator
   declarators-turn front height zero p tree raised at some is = absurd (omega arith)
   declarators-turn front height (suc turns) p tree raised at some is =
       let less : turns ≡ suc turns - 1 = omega arith in
       ap (λ o. gathered front height
       (after o (λ tree height at. cond (is_mark marks.Comma (kind_at tokens at))
-      (after (declarators_at tokens budget turns (at + 1)) (λ rest other to. Parsed (More tree rest) (max height other) to))
+      (after (declarators_at tokens budget storage turns (at + 1)) (λ rest other to. Parsed (More tree rest) (max height other) to))
       (last_declarator tokens tree height at)))) is ∙
       by (is_mark marks.Comma (kind_at tokens at)) ∙ ap (λ n. continued (appended front (More tree No_more)) (max height raised) at n) less
     where
@@ -71,54 +72,55 @@ module _ (tokens : List Token) (budget : ℕ) where
       by_end false = refl
 
       by : (t : Bool) → gathered front height
-          (cond t (after (declarators_at tokens budget turns (at + 1)) (λ rest other to. Parsed (More tree rest) (max raised other) to))
+          (cond t (after (declarators_at tokens budget storage turns (at + 1)) (λ rest other to. Parsed (More tree rest) (max raised other) to))
           (last_declarator tokens tree raised at)) ≡
-          cond t (gathered (appended front (More tree No_more)) (max height raised) (declarators_at tokens budget turns (at + 1)))
+          cond t (gathered (appended front (More tree No_more)) (max height raised) (declarators_at tokens budget storage turns (at + 1)))
           (expect tokens marks.Semicolon at (Parsed (appended front (More tree No_more)) (max height raised) (at + 1)))
-      by true = gathered-more front (More tree No_more) height raised (declarators_at tokens budget turns (at + 1))
+      by true = gathered-more front (More tree No_more) height raised (declarators_at tokens budget storage turns (at + 1))
       by false = by_end (is_mark marks.Semicolon (kind_at tokens at))
 
   -- a declarator that fails
-  pub declarators-fail : (front : SourceList) (height turns p : ℕ) (failure : Failure) → 1 ≤ turns → FailsParsing failure (declarator_at tokens budget p) →
-      FailsParsing failure (gathered front height (declarators_at tokens budget turns p))
+  pub declarators-fail : (front : SourceList) (height turns p : ℕ) (failure : Failure) → 1 ≤ turns → FailsParsing failure (declarator_at tokens budget storage p) →
+      FailsParsing failure (gathered front height (declarators_at tokens budget storage turns p))
   unfolding declarators_at
   declarators-fail front height zero p failure some fails = absurd (omega arith)
-  declarators-fail front height (suc turns) p failure some fails = fails-after failure _ _ (fails-after failure (declarator_at tokens budget p) _ fails)
+  declarators-fail front height (suc turns) p failure some fails = fails-after failure _ _ (fails-after failure (declarator_at tokens budget storage p) _ fails)
 
   -- the first declarator, after the items before it
-  pub declarators-init : (front list : SourceList) (p : ℕ) (tree : SourceStatement) (raised at : ℕ) → declarator_at tokens budget p ≡ Parsed tree raised at →
+  pub declarators-init : (front list : SourceList) (p : ℕ) (tree : SourceStatement) (raised at : ℕ) → declarator_at tokens budget storage p ≡ Parsed tree raised at →
       list ≡ appended front (More tree No_more) →
-      behind front (declarators_at tokens budget (length tokens + 1) p) ≡ continued list raised at (length tokens)
+      behind front (declarators_at tokens budget storage (length tokens + 1) p) ≡ continued list raised at (length tokens)
   declarators-init front list p tree raised at is list_is =
       let high : max 0 raised ≡ raised = omega arith in let less : length tokens + 1 - 1 ≡ length tokens = omega arith in
-      gathered-behind front (declarators_at tokens budget (length tokens + 1) p) ∙ declarators-turn front 0 (length tokens + 1) p tree raised at (omega arith) is ∙
+      gathered-behind front (declarators_at tokens budget storage (length tokens + 1) p) ∙ declarators-turn front 0 (length tokens + 1) p tree raised at (omega arith) is ∙
       ap (λ l. continued l (max 0 raised) at (length tokens + 1 - 1)) (sym list_is) ∙ ap (λ n. continued list n at (length tokens + 1 - 1)) high ∙ ap (λ n. continued list raised at n) less
 
   -- one more declarator in the loop
   pub declarators-more : (whole : ParseOutcome SourceList) (front list : SourceList) (height at turns : ℕ) (tree : SourceStatement) (raised to joined : ℕ) → whole ≡ continued front height at turns →
-      is_mark marks.Comma (kind_at tokens at) ≡ true → 1 ≤ turns → declarator_at tokens budget (at + 1) ≡ Parsed tree raised to →
+      is_mark marks.Comma (kind_at tokens at) ≡ true → 1 ≤ turns → declarator_at tokens budget storage (at + 1) ≡ Parsed tree raised to →
       list ≡ appended front (More tree No_more) → joined ≡ max height raised →
       whole ≡ continued list joined to (turns - 1)
   declarators-more whole front list height at turns tree raised to joined same comma some is list_is high =
-      same ∙ ap (λ t. cond t (gathered front height (declarators_at tokens budget turns (at + 1))) (expect tokens marks.Semicolon at (Parsed front height (at + 1)))) comma ∙
+      same ∙ ap (λ t. cond t (gathered front height (declarators_at tokens budget storage turns (at + 1))) (expect tokens marks.Semicolon at (Parsed front height (at + 1)))) comma ∙
       declarators-turn front height turns (at + 1) tree raised to some is ∙ ap (λ l. continued l (max height raised) to (turns - 1)) (sym list_is)
       ∙ ap (λ n. continued list n to (turns - 1)) (sym high)
 
   -- a failure of the first declarator, and of one in the loop
-  pub declarators-fail_first : (front : SourceList) (p : ℕ) (failure : Failure) → FailsParsing failure (declarator_at tokens budget p) →
-      FailsParsing failure (behind front (declarators_at tokens budget (length tokens + 1) p))
+  pub declarators-fail_first : (front : SourceList) (p : ℕ) (failure : Failure) → FailsParsing failure (declarator_at tokens budget storage p) →
+      FailsParsing failure (behind front (declarators_at tokens budget storage (length tokens + 1) p))
   declarators-fail_first front p failure fails =
-      subst (λ o. FailsParsing failure o) (sym (gathered-behind front (declarators_at tokens budget (length tokens + 1) p)))
+      subst (λ o. FailsParsing failure o) (sym (gathered-behind front (declarators_at tokens budget storage (length tokens + 1) p)))
       (declarators-fail front 0 (length tokens + 1) p failure (omega arith) fails)
 
   pub declarators-fail_more : (whole : ParseOutcome SourceList) (front : SourceList) (height at turns : ℕ) (failure : Failure) → whole ≡ continued front height at turns →
-      is_mark marks.Comma (kind_at tokens at) ≡ true → 1 ≤ turns → FailsParsing failure (declarator_at tokens budget (at + 1)) → FailsParsing failure whole
+      is_mark marks.Comma (kind_at tokens at) ≡ true → 1 ≤ turns → FailsParsing failure (declarator_at tokens budget storage (at + 1)) → FailsParsing failure whole
   declarators-fail_more whole front height at turns failure same comma some fails =
       subst (λ o. FailsParsing failure o)
-      (sym (same ∙ ap (λ t. cond t (gathered front height (declarators_at tokens budget turns (at + 1)))
+      (sym (same ∙ ap (λ t. cond t (gathered front height (declarators_at tokens budget storage turns (at + 1)))
       (expect tokens marks.Semicolon at (Parsed front height (at + 1)))) comma))
       (declarators-fail front height turns (at + 1) failure some fails)
 
+module _ (tokens : List Token) (budget : ℕ) where
   module _ (inner : (from : ℕ) → ParseOutcome SourceStatement) where
     -- one more item
     pub items-turn : (front : SourceList) (height turns p : ℕ) (more : SourceList) (raised at : ℕ) → 1 ≤ turns → is_mark marks.RightBrace (kind_at tokens p) ≡ false →

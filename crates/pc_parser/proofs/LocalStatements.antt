@@ -9,21 +9,24 @@ use Rattle.pc_lexer.specs.declared.mark.Mark.TheVariants as marks
 use Rattle.pc_lexer.specs.declared.keyword.Keyword.{Keyword}
 use Rattle.pc_lexer.specs.declared.keyword.Keyword.TheVariants as keys
 use Rattle.pc_syntax.specs.declared.operator.BinaryOp.{BinaryOp}
-use Rattle.pc_syntax.specs.Source.{SourceExpression, SourceStatement, SourceList, OptionalStatement, Literal, ScalarDeclaration, ArrayDeclaration, Printing, Evaluation, WhileLoop, DoLoop}
+use Rattle.pc_syntax.specs.Source.{SourceExpression, SourceStatement, SourceList, OptionalStatement, Literal, ScalarDeclaration, Printing, Evaluation, WhileLoop, DoLoop}
 use Rattle.pc_syntax.specs.Source.{BreakOut, ContinueOn, ReturnFrom, More, appended}
+use Rattle.pc_parser.specs.declared.storage.Storage.{Storage}
+use Rattle.pc_parser.specs.declared.storage.Storage.TheVariants.{Automatic, Static}
 use Rattle.pc_parser.specs.Places.{kind_at, line_at}
 use Rattle.pc_parser.specs.models.Tests.{is_mark, is_key, mark_is, key_is}
 use Rattle.pc_parser.specs.Operators.{step_of}
 use Rattle.pc_parser.specs.Statements.{Target, assigned}
-use Rattle.pc_parser.specs.models.Outcome.{ParseOutcome, Parsed, Unreadable, TooHigh, after, allowed, expect, expect_key}
+use Rattle.pc_parser.specs.models.Outcome.{ParseOutcome, Parsed, TooHigh, after, allowed, expect, expect_key}
 use Rattle.pc_parser.specs.models.ExpressionParser.{target_tree, target_height, climb, choice, expression_at, below}
 use Rattle.pc_parser.specs.models.StatementParser.{assignment_from, step_from, symbol_of, length_of, name_budget, parenthesized_at, closed_behind, closed, target_on, target_at, evaluation}
 use Rattle.pc_parser.specs.models.StatementParser.{evaluation_from, print_at, step_before, assignment, behind_target, on_target, named, marked, simple_on, simple_at, ended_at, array}
-use Rattle.pc_parser.specs.models.StatementParser.{initialised, declarator_on, declarator_at, last_declarator, declarators_at, declaration_at, first_at, condition_at, step_at, item_at}
+use Rattle.pc_parser.specs.models.StatementParser.{initialised, declarator_on, declarator_at, last_declarator, fixed_on, declarators_at, declaration_at, static_at, first_at, condition_at, step_at, item_at}
 use Rattle.pc_parser.specs.models.StatementParser.{items_at, block_at, otherwise_at, branch_at, while_at, do_at, for_body, for_at, lone, return_at, keyed, started, statement_on}
 use Rattle.pc_parser.specs.models.StatementParser.{statement_from, statement_at, statement_below, nothing_behind, main_block, program_at}
 use Rattle.pc_parser.proofs.Local.{Budgets, Budgets-less, Goes, Goes-stop, Goes-from, Goes-after, Goes-cond, Local, parsed, unreadable, too_high, earlier, after-local, allowed-local, look}
 use Rattle.pc_parser.proofs.Local.{look_line, if-local, expect-local, expect_key-local}
+use Rattle.pc_parser.proofs.LocalArrays.{array-local, fixed_on-local}
 use Rattle.pc_parser.proofs.LocalExpressions.{target_named-local, choice-local, climb-local, expression_at-local, below-local}
 
 module _ (k : ℕ) (E : Type 0) (ts ws : List Token) (kinds_agree : (i : ℕ) → i ≤ k → kind_at ws i ≡ kind_at ts i) (lines_agree : (i : ℕ) → i ≤ k → line_at ws i ≡ line_at ts i) where
@@ -203,19 +206,6 @@ module _ (k : ℕ) (E : Type 0) (ts ws : List Token) (kinds_agree : (i : ℕ) �
     unfolding ended_at
     ended_at-local from = closed-local marks.Semicolon b c 1 from budgets (simple_at ts b from) (simple_at ws c from) (simple_at-local from)
 
-    abbrev array_with : List Token → ℕ → ℕ → Option ℕ → (line at : ℕ) → ParseOutcome SourceStatement
-    array_with tokens symbol from (Some length) line at = expect tokens marks.RightBracket (from + 3) (Parsed (ArrayDeclaration symbol line at length) 1 (from + 4))
-    array_with tokens symbol from None line at = Unreadable (from + 2)
-
-    pub array-local : (symbol from : ℕ) (size : Option ℕ) → Local k E 0 (from + 2) (array ts symbol from size) (array ws symbol from size)
-    unfolding array
-    array-local symbol from (Some size) =
-        behind_line 0 from (from + 2) (λ line. array_with ts symbol from (Some size) line (line_at ts (from + 2)))
-        (λ line. array_with ws symbol from (Some size) line (line_at ws (from + 2))) (omega arith) (λ line.
-        by_line 0 (from + 2) (λ at. array_with ts symbol from (Some size) line at) (λ at. array_with ws symbol from (Some size) line at) (λ at.
-        up 1 (from + 3) 0 (from + 2) (omega arith) (omega arith) (mark_then marks.RightBracket (from + 3) (done 0 (from + 3 + 1) (omega arith)))))
-    array-local symbol from None = unreadable k E 0 (from + 2) (from + 2) (omega arith)
-
     abbrev set : ℕ → ℕ → SourceExpression → (height to : ℕ) → ParseOutcome SourceStatement
     set symbol line value height to = Parsed (ScalarDeclaration symbol line (Some value)) (height + 1) to
 
@@ -227,54 +217,62 @@ module _ (k : ℕ) (E : Type 0) (ts ws : List Token) (kinds_agree : (i : ℕ) �
         within 2 b c (from + 1) 0 (from + 1) budgets (omega arith) (up 1 (from + 2) 0 (from + 1) (omega arith) (omega arith)
         (next _ _ (whole (b - 1) (c - 1) (Budgets-less budgets) (from + 2)) (λ value height to onward. done 0 to (omega arith)))))
 
-    pub declarator_at-local : (from : ℕ) → Local k E 1 from (declarator_at ts b from) (declarator_at ws c from)
-    unfolding declarator_at declarator_on
-    declarator_at-local from = by_kind 1 from (λ kind. declarator_on ts b (symbol_of kind) from) (λ kind. declarator_on ws c (symbol_of kind) from) (λ kind. on (symbol_of kind))
-      where
-        on : (symbol : Option ℕ) → Local k E 1 from (declarator_on ts b symbol from) (declarator_on ws c symbol from)
-        on (Some symbol) = up 0 (from + 1) 1 from (omega arith) (omega arith)
-            (on_mark marks.Assign 0 (from + 1) (initialised-local symbol from)
-            (on_mark marks.LeftBracket 0 (from + 1)
-            (up 0 (from + 2) 0 (from + 1) (omega arith) (omega arith)
-            (by_kind 0 (from + 2) (λ kind. array ts symbol from (length_of kind)) (λ kind. array ws symbol from (length_of kind))
-            (λ kind. array-local symbol from (length_of kind))))
-            (behind_line 0 from (from + 1) (λ line. Parsed (ScalarDeclaration symbol line None) 1 (from + 1))
-            (λ line. Parsed (ScalarDeclaration symbol line None) 1 (from + 1)) (omega arith) (λ line. done 0 (from + 1) (omega arith)))))
-        on None = unreadable k E 1 from from (omega arith)
-
     pub last_declarator-local : (tree : SourceStatement) (height at : ℕ) → Local k E 1 at (last_declarator ts tree height at) (last_declarator ws tree height at)
     unfolding last_declarator
     last_declarator-local tree height at = mark_then marks.Semicolon at (done 0 (at + 1) (omega arith))
 
-    declarators_at-goes : (n from : ℕ) → Goes 1 from (declarators_at ts b n from)
-    unfolding declarators_at
-    declarators_at-goes zero from = omega arith
-    declarators_at-goes (suc n) from = Goes-after 1 from (declarator_at ts b from) _ (declarator_at-local from).goes (λ tree height at onward.
-        Goes-cond 0 at (is_mark marks.Comma (kind_at ts at)) _ _
-        (Goes-from 1 (at + 1) 0 at _ (omega arith) (omega arith)
-        (Goes-after 1 (at + 1) (declarators_at ts b n (at + 1)) (λ rest other to. Parsed (More tree rest) (max height other) to) (declarators_at-goes n (at + 1))
-        (λ rest other to behind. omega arith)))
-        (Goes-from 1 at 0 at _ (omega arith) (omega arith) (last_declarator-local tree height at).goes))
-
-    pub declarators_at-local : (n m from : ℕ) → k < from + n → k < from + m → Local k E 1 from (declarators_at ts b n from) (declarators_at ws c m from)
-    unfolding declarators_at
-    declarators_at-local zero m from few fewer = record { goes = omega arith; carries = λ s e. absurd (omega arith) }
-    declarators_at-local (suc n) zero from few fewer =
-        let goes = declarators_at-goes (suc n) from in
-        let onward = Goes-stop 1 from (declarators_at ts b (suc n) from) goes in
-        record { goes = goes; carries = λ s e. absurd (omega arith) }
-    declarators_at-local (suc n) (suc m) from few fewer =
-        next _ _ (declarator_at-local from) (λ tree height at onward.
-        on_mark marks.Comma 0 at
-        (up 1 (at + 1) 0 at (omega arith) (omega arith) (next _ _ (declarators_at-local n m (at + 1) (omega arith) (omega arith)) (λ rest other to behind. done 0 to (omega arith))))
-        (up 1 at 0 at (omega arith) (omega arith) (last_declarator-local tree height at)))
-
     -- the list of tokens that is gone on with is long enough
     module _ (few : k < length ts + 1) (fewer : k < length ws + 1) where
+      pub declarator_at-local : (storage : Storage) (from : ℕ) → Local k E 1 from (declarator_at ts b storage from) (declarator_at ws c storage from)
+      unfolding declarator_at declarator_on
+      declarator_at-local Static from = by_kind 1 from (λ kind. fixed_on ts (symbol_of kind) from) (λ kind. fixed_on ws (symbol_of kind) from)
+          (λ kind. fixed_on-local k E ts ws kinds_agree lines_agree few fewer from (symbol_of kind))
+      declarator_at-local Automatic from = by_kind 1 from (λ kind. declarator_on ts b (symbol_of kind) from) (λ kind. declarator_on ws c (symbol_of kind) from) (λ kind. on (symbol_of kind))
+        where
+          on : (symbol : Option ℕ) → Local k E 1 from (declarator_on ts b symbol from) (declarator_on ws c symbol from)
+          on (Some symbol) = up 0 (from + 1) 1 from (omega arith) (omega arith)
+              (on_mark marks.Assign 0 (from + 1) (initialised-local symbol from)
+              (on_mark marks.LeftBracket 0 (from + 1)
+              (up 0 (from + 2) 0 (from + 1) (omega arith) (omega arith)
+              (by_kind 0 (from + 2) (λ kind. array ts symbol from (length_of kind)) (λ kind. array ws symbol from (length_of kind))
+              (λ kind. array-local k E ts ws kinds_agree lines_agree symbol from (length_of kind))))
+              (behind_line 0 from (from + 1) (λ line. Parsed (ScalarDeclaration symbol line None) 1 (from + 1))
+              (λ line. Parsed (ScalarDeclaration symbol line None) 1 (from + 1)) (omega arith) (λ line. done 0 (from + 1) (omega arith)))))
+          on None = unreadable k E 1 from from (omega arith)
+
+      declarators_at-goes : (storage : Storage) (n from : ℕ) → Goes 1 from (declarators_at ts b storage n from)
+      unfolding declarators_at
+      declarators_at-goes storage zero from = omega arith
+      declarators_at-goes storage (suc n) from = Goes-after 1 from (declarator_at ts b storage from) _ (declarator_at-local storage from).goes (λ tree height at onward.
+          Goes-cond 0 at (is_mark marks.Comma (kind_at ts at)) _ _
+          (Goes-from 1 (at + 1) 0 at _ (omega arith) (omega arith)
+          (Goes-after 1 (at + 1) (declarators_at ts b storage n (at + 1)) (λ rest other to. Parsed (More tree rest) (max height other) to) (declarators_at-goes storage n (at + 1))
+          (λ rest other to behind. omega arith)))
+          (Goes-from 1 at 0 at _ (omega arith) (omega arith) (last_declarator-local tree height at).goes))
+
+      pub declarators_at-local : (storage : Storage) (n m from : ℕ) → k < from + n → k < from + m → Local k E 1 from (declarators_at ts b storage n from) (declarators_at ws c storage m from)
+      unfolding declarators_at
+      declarators_at-local storage zero m from little less = record { goes = omega arith; carries = λ s e. absurd (omega arith) }
+      declarators_at-local storage (suc n) zero from little less =
+          let goes = declarators_at-goes storage (suc n) from in
+          let onward = Goes-stop 1 from (declarators_at ts b storage (suc n) from) goes in
+          record { goes = goes; carries = λ s e. absurd (omega arith) }
+      declarators_at-local storage (suc n) (suc m) from little less =
+          next _ _ (declarator_at-local storage from) (λ tree height at onward.
+          on_mark marks.Comma 0 at
+          (up 1 (at + 1) 0 at (omega arith) (omega arith) (next _ _ (declarators_at-local storage n m (at + 1) (omega arith) (omega arith)) (λ rest other to behind. done 0 to (omega arith))))
+          (up 1 at 0 at (omega arith) (omega arith) (last_declarator-local tree height at)))
+
       pub declaration_at-local : (from : ℕ) → Local k E 1 from (declaration_at ts b from) (declaration_at ws c from)
       unfolding declaration_at
       declaration_at-local from = within 1 b c from 1 from budgets (omega arith) (up 1 (from + 1) 1 from (omega arith) (omega arith)
-          (declarators_at-local (length ts + 1) (length ws + 1) (from + 1) (omega arith) (omega arith)))
+          (declarators_at-local Automatic (length ts + 1) (length ws + 1) (from + 1) (omega arith) (omega arith)))
+
+      pub static_at-local : (from : ℕ) → Local k E 1 from (static_at ts b from) (static_at ws c from)
+      unfolding static_at
+      static_at-local from = within 1 b c from 1 from budgets (omega arith) (up 1 (from + 1) 1 from (omega arith) (omega arith)
+          (key_then keys.Int (from + 1) (up 1 (from + 2) 0 (from + 1 + 1) (omega arith) (omega arith)
+          (declarators_at-local Static (length ts + 1) (length ws + 1) (from + 2) (omega arith) (omega arith)))))
 
       pub first_at-local : (from : ℕ) → Local k E 1 from (first_at ts b from) (first_at ws c from)
       unfolding first_at
@@ -302,7 +300,8 @@ module _ (k : ℕ) (E : Type 0) (ts ws : List Token) (kinds_agree : (i : ℕ) �
     unfolding item_at
     item_at-local from =
         on_key keys.Int 1 from (declaration_at-local (b - 1) (c - 1) (Budgets-less budgets) few fewer from)
-        (next _ _ (inners from) (λ tree height to onward. done 0 to (omega arith)))
+        (on_key keys.Static 1 from (static_at-local (b - 1) (c - 1) (Budgets-less budgets) few fewer from)
+        (next _ _ (inners from) (λ tree height to onward. done 0 to (omega arith))))
 
     items_at-goes : (n from : ℕ) → Goes 1 from (items_at ts inner b n from)
     unfolding items_at

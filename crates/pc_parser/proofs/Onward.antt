@@ -3,10 +3,13 @@ use Rattle.std.proofs.Common.{◌≡◌, ℕ, zero, suc, ◌+◌, ◌<◌, List,
 use Rattle.std.specs.Prelude.{Some}
 use Rattle.pc_lexer.specs.declared.token.Token.{Token}
 use Rattle.pc_lexer.specs.declared.token.TokenKind.{TokenKind}
+use Rattle.pc_syntax.specs.declared.constant.Const.{Const}
 use Rattle.pc_syntax.specs.Source.{SourceExpression, SourceStatement, SourceList, OptionalStatement}
+use Rattle.pc_parser.specs.declared.storage.Storage.{Storage}
+use Rattle.pc_parser.specs.declared.storage.Storage.TheVariants.{Automatic}
 use Rattle.pc_parser.specs.Places.{kind_at}
 use Rattle.pc_parser.specs.Expressions.{ReadsExpression, ReadsLevel, ReadsUnary, ReadsPrimary}
-use Rattle.pc_parser.specs.Statements.{Target, ReadsTarget, ReadsTest, ReadsSimple, ReadsDeclarator, ReadsDeclarators, ReadsDeclaration, ReadsFirst, ReadsCondition, ReadsStep}
+use Rattle.pc_parser.specs.Statements.{Target, ReadsTarget, ReadsTest, ReadsSimple, ReadsConstant, ReadsConstants, ReadsDeclarator, ReadsDeclarators, ReadsDeclaration, ReadsFirst, ReadsCondition, ReadsStep}
 use Rattle.pc_parser.specs.Statements.{ReadsStatement, ReadsItems}
 
 -- where there is a token, there is a place
@@ -55,21 +58,33 @@ module _ (tokens : List Token) where
   simple-onward p s h q (ReadsSimple.print {height = i} {value = value} is d) = let a = test-onward (p + 1) value i q d in omega arith
   simple-onward p s h q (ReadsSimple.evaluation {height = i} {value = value} d) = expression-onward p value i q d
 
-  pub declarator-onward : (p : ℕ) (s : SourceStatement) (h q : ℕ) → ReadsDeclarator tokens p s h q → p < q
-  declarator-onward p s h q (ReadsDeclarator.scalar is) = omega arith
-  declarator-onward p s h q (ReadsDeclarator.initialised {height = i} {value = value} is assign d) = let a = expression-onward (p + 2) value i q d in omega arith
-  declarator-onward p s h q (ReadsDeclarator.array is open' number close') = omega arith
+  pub constant-onward : (p : ℕ) (t : Const) (q : ℕ) → ReadsConstant tokens p t q → p < q
+  constant-onward p t q (ReadsConstant.number is) = omega arith
+  constant-onward p t q (ReadsConstant.negated minus is) = omega arith
 
-  pub declarators-onward : (p : ℕ) (trees : SourceList) (h q : ℕ) → ReadsDeclarators tokens p trees h q → p < q
-  declarators-onward p trees h q (ReadsDeclarators.last {q = r} {tree = tree} d close') = let a = declarator-onward p tree h r d in omega arith
-  declarators-onward p trees h q (ReadsDeclarators.comma {i = i} {q = r} {j = j} {tree = tree} {rest = rest} d comma e) = let a = declarator-onward p tree i r d in
-      let b = declarators-onward (r + 1) rest j q e in omega arith
+  pub constants-onward : (p : ℕ) (t : List Const) (q : ℕ) → ReadsConstants tokens p t q → p < q
+  constants-onward p t q (ReadsConstants.last {q = r} {tree = tree} d close') = let a = constant-onward p tree r d in omega arith
+  constants-onward p t q (ReadsConstants.last_with_comma {q = r} {tree = tree} d comma close') = let a = constant-onward p tree r d in omega arith
+  constants-onward p t q (ReadsConstants.comma {q = r} {tree = tree} {rest = rest} d comma e) = let a = constant-onward p tree r d in
+      let b = constants-onward (r + 1) rest q e in omega arith
 
-  pub declaration-onward : (p : ℕ) (trees : SourceList) (h q : ℕ) → ReadsDeclaration tokens p trees h q → p < q
-  declaration-onward p trees h q (ReadsDeclaration.declaration is d) = let a = declarators-onward (p + 1) trees h q d in omega arith
+  pub declarator-onward : (storage : Storage) (p : ℕ) (s : SourceStatement) (h q : ℕ) → ReadsDeclarator tokens storage p s h q → p < q
+  declarator-onward storage p s h q (ReadsDeclarator.scalar is) = omega arith
+  declarator-onward storage p s h q (ReadsDeclarator.initialised {height = i} {value = value} is assign d) = let a = expression-onward (p + 2) value i q d in omega arith
+  declarator-onward storage p s h q (ReadsDeclarator.array is open' number close') = omega arith
+  declarator-onward storage p s h q (ReadsDeclarator.initialised_array {values = values} is open' number close' assign brace d) = let a = constants-onward (p + 6) values q d in omega arith
+
+  pub declarators-onward : (storage : Storage) (p : ℕ) (trees : SourceList) (h q : ℕ) → ReadsDeclarators tokens storage p trees h q → p < q
+  declarators-onward storage p trees h q (ReadsDeclarators.last {q = r} {tree = tree} d close') = let a = declarator-onward storage p tree h r d in omega arith
+  declarators-onward storage p trees h q (ReadsDeclarators.comma {i = i} {q = r} {j = j} {tree = tree} {rest = rest} d comma e) = let a = declarator-onward storage p tree i r d in
+      let b = declarators-onward storage (r + 1) rest j q e in omega arith
+
+  pub declaration-onward : (storage : Storage) (p : ℕ) (trees : SourceList) (h q : ℕ) → ReadsDeclaration tokens storage p trees h q → p < q
+  declaration-onward storage p trees h q (ReadsDeclaration.automatic is d) = let a = declarators-onward storage (p + 1) trees h q d in omega arith
+  declaration-onward storage p trees h q (ReadsDeclaration.static is int d) = let a = declarators-onward storage (p + 2) trees h q d in omega arith
 
   pub first-onward : (p : ℕ) (trees : SourceList) (h q : ℕ) → ReadsFirst tokens p trees h q → p < q
-  first-onward p trees h q (ReadsFirst.declared d) = declaration-onward p trees h q d
+  first-onward p trees h q (ReadsFirst.declared d) = declaration-onward Automatic p trees h q d
   first-onward p trees h q (ReadsFirst.simple {q = r} {tree = tree} d close') = let a = simple-onward p tree h r d in omega arith
   first-onward p trees h q (ReadsFirst.none is) = omega arith
 
@@ -102,6 +117,6 @@ module _ (tokens : List Token) where
 
     pub items-onward : (p : ℕ) (trees : SourceList) (h q : ℕ) → ReadsItems tokens p trees h q → p < q
     items-onward p trees h q (ReadsItems.close is) = omega arith
-    items-onward p trees h q (ReadsItems.declared {i = i} {q = r} {j = j} {trees = some} {rest = rest} d e) = let a = declaration-onward p some i r d in
+    items-onward p trees h q (ReadsItems.declared {storage = storage} {i = i} {q = r} {j = j} {trees = some} {rest = rest} d e) = let a = declaration-onward storage p some i r d in
         let b = items-onward r rest j q e in omega arith
     items-onward p trees h q (ReadsItems.stated {i = i} {q = r} {j = j} {tree = tree} {rest = rest} d e) = let a = statement-onward p tree i r d in let b = items-onward r rest j q e in omega arith

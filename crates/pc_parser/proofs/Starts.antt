@@ -22,6 +22,7 @@ use Rattle.pc_parser.specs.models.StatementParser.{simple_on, marked, evaluation
 pub record CanBegin (kind : Option TokenKind) : Type 0 where
   pub else_not : is_key keys.Else kind ≡ false
   pub int_not : is_key keys.Int kind ≡ false
+  pub static_not : is_key keys.Static kind ≡ false
   pub brace_not : is_mark marks.RightBrace kind ≡ false
 
 -- a token that begins a simple statement
@@ -41,7 +42,7 @@ unfolding statement_on
 begins-name symbol =
     record {
       simple = record {
-        begins = record { else_not = refl; int_not = refl; brace_not = refl };
+        begins = record { else_not = refl; int_not = refl; static_not = refl; brace_not = refl };
         semicolon_not = refl;
         paren_not = refl;
         ended =
@@ -55,7 +56,7 @@ unfolding statement_on simple_on
 begins-number value =
     record {
       simple = record {
-        begins = record { else_not = refl; int_not = refl; brace_not = refl };
+        begins = record { else_not = refl; int_not = refl; static_not = refl; brace_not = refl };
         semicolon_not = refl;
         paren_not = refl;
         ended =
@@ -68,7 +69,7 @@ begins-read : BeginsExpression (Some (kinds.Key keys.Read))
 unfolding statement_on keyed simple_on
 begins-read = record {
   simple =
-      record { begins = record { else_not = refl; int_not = refl; brace_not = refl }; semicolon_not = refl; paren_not = refl; ended = λ tokens inner budget from. refl };
+      record { begins = record { else_not = refl; int_not = refl; static_not = refl; brace_not = refl }; semicolon_not = refl; paren_not = refl; ended = λ tokens inner budget from. refl };
   route = inr (λ tokens budget from. refl);
 }
 
@@ -76,7 +77,7 @@ begins-paren : BeginsExpression (Some (kinds.Mark marks.LeftParen))
 unfolding statement_on started simple_on marked step_of
 begins-paren = record {
   simple =
-      record { begins = record { else_not = refl; int_not = refl; brace_not = refl }; semicolon_not = refl; paren_not = refl; ended = λ tokens inner budget from. refl };
+      record { begins = record { else_not = refl; int_not = refl; static_not = refl; brace_not = refl }; semicolon_not = refl; paren_not = refl; ended = λ tokens inner budget from. refl };
   route = inr (λ tokens budget from. refl);
 }
 
@@ -85,7 +86,7 @@ unfolding statement_on started simple_on marked step_of prefix_of
 begins-sign marks.Plus sign is =
     record {
       simple = record {
-        begins = record { else_not = refl; int_not = refl; brace_not = refl };
+        begins = record { else_not = refl; int_not = refl; static_not = refl; brace_not = refl };
         semicolon_not = refl;
         paren_not = refl;
         ended =
@@ -96,7 +97,7 @@ begins-sign marks.Plus sign is =
 begins-sign marks.Minus sign is =
     record {
       simple = record {
-        begins = record { else_not = refl; int_not = refl; brace_not = refl };
+        begins = record { else_not = refl; int_not = refl; static_not = refl; brace_not = refl };
         semicolon_not = refl;
         paren_not = refl;
         ended =
@@ -107,7 +108,7 @@ begins-sign marks.Minus sign is =
 begins-sign marks.Tilde sign is =
     record {
       simple = record {
-        begins = record { else_not = refl; int_not = refl; brace_not = refl };
+        begins = record { else_not = refl; int_not = refl; static_not = refl; brace_not = refl };
         semicolon_not = refl;
         paren_not = refl;
         ended =
@@ -118,7 +119,7 @@ begins-sign marks.Tilde sign is =
 begins-sign marks.Not sign is =
     record {
       simple = record {
-        begins = record { else_not = refl; int_not = refl; brace_not = refl };
+        begins = record { else_not = refl; int_not = refl; static_not = refl; brace_not = refl };
         semicolon_not = refl;
         paren_not = refl;
         ended =
@@ -130,13 +131,13 @@ begins-sign mark sign is = cc
 
 begins-step : (mark : Mark) (op : BinaryOp) → step_of mark ≡ Some op → BeginsSimple (Some (kinds.Mark mark))
 unfolding statement_on started step_of
-begins-step marks.PlusPlus op is = record { begins = record { else_not = refl; int_not = refl; brace_not = refl }; semicolon_not = refl; paren_not = refl; ended = λ tokens inner budget from. refl }
-begins-step marks.MinusMinus op is = record { begins = record { else_not = refl; int_not = refl; brace_not = refl }; semicolon_not = refl; paren_not = refl; ended = λ tokens inner budget from. refl }
+begins-step marks.PlusPlus op is = record { begins = record { else_not = refl; int_not = refl; static_not = refl; brace_not = refl }; semicolon_not = refl; paren_not = refl; ended = λ tokens inner budget from. refl }
+begins-step marks.MinusMinus op is = record { begins = record { else_not = refl; int_not = refl; static_not = refl; brace_not = refl }; semicolon_not = refl; paren_not = refl; ended = λ tokens inner budget from. refl }
 begins-step mark op is = cc
 
 begins-print : BeginsSimple (Some (kinds.Key keys.Print))
 unfolding statement_on keyed
-begins-print = record { begins = record { else_not = refl; int_not = refl; brace_not = refl }; semicolon_not = refl; paren_not = refl; ended = λ tokens inner budget from. refl }
+begins-print = record { begins = record { else_not = refl; int_not = refl; static_not = refl; brace_not = refl }; semicolon_not = refl; paren_not = refl; ended = λ tokens inner budget from. refl }
 
 module _ (tokens : List Token) where
   mutual
@@ -172,14 +173,14 @@ module _ (tokens : List Token) where
   simple-begins p s h q (ReadsSimple.evaluation {height = i} {value = value} d) = (expression-begins p value i q d).simple
 
   pub statement-begins : (p : ℕ) (s : SourceStatement) (h q : ℕ) → ReadsStatement tokens p s h q → CanBegin (kind_at tokens p)
-  statement-begins p s h q (ReadsStatement.block is d) = subst CanBegin (sym is) record { else_not = refl; int_not = refl; brace_not = refl }
-  statement-begins p s h q (ReadsStatement.empty is) = subst CanBegin (sym is) record { else_not = refl; int_not = refl; brace_not = refl }
+  statement-begins p s h q (ReadsStatement.block is d) = subst CanBegin (sym is) record { else_not = refl; int_not = refl; static_not = refl; brace_not = refl }
+  statement-begins p s h q (ReadsStatement.empty is) = subst CanBegin (sym is) record { else_not = refl; int_not = refl; static_not = refl; brace_not = refl }
   statement-begins p s h q (ReadsStatement.simple {height = i} {q = r} {tree = tree} d is) = (simple-begins p tree i r d).begins
-  statement-begins p s h q (ReadsStatement.branch is d e) = subst CanBegin (sym is) record { else_not = refl; int_not = refl; brace_not = refl }
-  statement-begins p s h q (ReadsStatement.branch_else is d e closed is' f) = subst CanBegin (sym is) record { else_not = refl; int_not = refl; brace_not = refl }
-  statement-begins p s h q (ReadsStatement.while_loop is d e) = subst CanBegin (sym is) record { else_not = refl; int_not = refl; brace_not = refl }
-  statement-begins p s h q (ReadsStatement.do_loop is d is' e close') = subst CanBegin (sym is) record { else_not = refl; int_not = refl; brace_not = refl }
-  statement-begins p s h q (ReadsStatement.for_loop is open' d e f g) = subst CanBegin (sym is) record { else_not = refl; int_not = refl; brace_not = refl }
-  statement-begins p s h q (ReadsStatement.break_out is close') = subst CanBegin (sym is) record { else_not = refl; int_not = refl; brace_not = refl }
-  statement-begins p s h q (ReadsStatement.continue_on is close') = subst CanBegin (sym is) record { else_not = refl; int_not = refl; brace_not = refl }
-  statement-begins p s h q (ReadsStatement.return_from is d close') = subst CanBegin (sym is) record { else_not = refl; int_not = refl; brace_not = refl }
+  statement-begins p s h q (ReadsStatement.branch is d e) = subst CanBegin (sym is) record { else_not = refl; int_not = refl; static_not = refl; brace_not = refl }
+  statement-begins p s h q (ReadsStatement.branch_else is d e closed is' f) = subst CanBegin (sym is) record { else_not = refl; int_not = refl; static_not = refl; brace_not = refl }
+  statement-begins p s h q (ReadsStatement.while_loop is d e) = subst CanBegin (sym is) record { else_not = refl; int_not = refl; static_not = refl; brace_not = refl }
+  statement-begins p s h q (ReadsStatement.do_loop is d is' e close') = subst CanBegin (sym is) record { else_not = refl; int_not = refl; static_not = refl; brace_not = refl }
+  statement-begins p s h q (ReadsStatement.for_loop is open' d e f g) = subst CanBegin (sym is) record { else_not = refl; int_not = refl; static_not = refl; brace_not = refl }
+  statement-begins p s h q (ReadsStatement.break_out is close') = subst CanBegin (sym is) record { else_not = refl; int_not = refl; static_not = refl; brace_not = refl }
+  statement-begins p s h q (ReadsStatement.continue_on is close') = subst CanBegin (sym is) record { else_not = refl; int_not = refl; static_not = refl; brace_not = refl }
+  statement-begins p s h q (ReadsStatement.return_from is d close') = subst CanBegin (sym is) record { else_not = refl; int_not = refl; static_not = refl; brace_not = refl }

@@ -1,7 +1,9 @@
 -- How the tokens of a list are read as statements: one case a rule, with the places and the heights of
 -- `Expressions`. A declarator, a simple statement, `break`, `continue`, `return` and `;` are one higher
--- than their highest expression, or 1; a block, `if` or loop is one higher than its highest part, or 1.
-use Rattle.std.specs.Prelude.{◌≡◌, ℕ, pos, ◌+◌, max, Bool, true, false, Option, Some, None, List}
+-- than their highest expression, or 1, and the constants of an initialiser are none; a block, `if` or loop is one higher than
+-- its highest part, or 1.
+use Rattle.std.specs.Prelude.{◌≡◌, ℕ, ℤ, pos, ◌+◌, max, Bool, true, false, Option, Some, None, List, [], ◌∷◌}
+use Rattle.pc_word.specs.Word.{word_sub}
 use Rattle.pc_lexer.specs.declared.token.Token.{Token}
 use Rattle.pc_lexer.specs.declared.token.TokenKind.TheVariants as kinds
 use Rattle.pc_lexer.specs.declared.mark.Mark.{Mark}
@@ -9,8 +11,11 @@ use Rattle.pc_lexer.specs.declared.mark.Mark.TheVariants as marks
 use Rattle.pc_lexer.specs.declared.keyword.Keyword.{Keyword}
 use Rattle.pc_lexer.specs.declared.keyword.Keyword.TheVariants as keys
 use Rattle.pc_syntax.specs.declared.operator.BinaryOp.{BinaryOp}
+use Rattle.pc_syntax.specs.declared.constant.Const.{Const}
 use Rattle.pc_syntax.specs.Source.{SourceExpression, SourceStatement, SourceList, OptionalStatement, SourceProgram, Literal, Scope, ScalarDeclaration, ArrayDeclaration, Assignment, Printing}
 use Rattle.pc_syntax.specs.Source.{Evaluation, Branch, WhileLoop, DoLoop, ForLoop, BreakOut, ContinueOn, ReturnFrom, Nothing, Absent, Present, No_more, More, appended}
+use Rattle.pc_parser.specs.declared.storage.Storage.{Storage}
+use Rattle.pc_parser.specs.declared.storage.Storage.TheVariants.{Automatic, Static}
 use Rattle.pc_parser.specs.Places.{kind_at, line_at}
 use Rattle.pc_parser.specs.Operators.{assignment_of, step_of}
 use Rattle.pc_parser.specs.Expressions.{HasMark, HasName, HasNumber, ReadsExpression}
@@ -76,46 +81,87 @@ pub data ReadsSimple (tokens : List Token) : (from : ℕ) → (tree : SourceStat
       ReadsExpression tokens from value height to →
       ReadsSimple tokens from (Evaluation (line_at tokens from) value) (height + 1) to
 
--- declarator: name [`=` expr], or name `[` number `]`
-pub data ReadsDeclarator (tokens : List Token) : (from : ℕ) → (tree : SourceStatement) → (height to : ℕ) → Type 0 where
+-- constant: [`-`] number, and its line is that of its first token
+pub data ReadsConstant (tokens : List Token) : (from : ℕ) → (tree : Const) → (to : ℕ) → Type 0 where
+  number : {from : ℕ} {value : ℤ} →
+      HasNumber tokens from value →
+      ReadsConstant tokens from record { line = line_at tokens from; value = value } (from + 1)
+  negated : {from : ℕ} {value : ℤ} →
+      HasMark tokens from marks.Minus →
+      HasNumber tokens (from + 1) value →
+      ReadsConstant tokens from record { line = line_at tokens from; value = word_sub (pos 0) value } (from + 2)
+
+-- constant {`,` constant} [`,`] `}`
+pub data ReadsConstants (tokens : List Token) : (from : ℕ) → (trees : List Const) → (to : ℕ) → Type 0 where
+  last : {from q : ℕ} {tree : Const} →
+      ReadsConstant tokens from tree q →
+      HasMark tokens q marks.RightBrace →
+      ReadsConstants tokens from (tree ∷ []) (q + 1)
+  last_with_comma : {from q : ℕ} {tree : Const} →
+      ReadsConstant tokens from tree q →
+      HasMark tokens q marks.Comma →
+      HasMark tokens (q + 1) marks.RightBrace →
+      ReadsConstants tokens from (tree ∷ []) (q + 2)
+  comma : {from q to : ℕ} {tree : Const} {rest : List Const} →
+      ReadsConstant tokens from tree q →
+      HasMark tokens q marks.Comma →
+      ReadsConstants tokens (q + 1) rest to →
+      ReadsConstants tokens from (tree ∷ rest) to
+
+-- declarator: name [`=` expr], or name `[` number `]`; of a static declaration name `[` number `]` [`=` `{` constants `}`]
+pub data ReadsDeclarator (tokens : List Token) : (storage : Storage) → (from : ℕ) → (tree : SourceStatement) → (height to : ℕ) → Type 0 where
   scalar : {from symbol : ℕ} →
       HasName tokens from symbol →
-      ReadsDeclarator tokens from (ScalarDeclaration symbol (line_at tokens from) None) 1 (from + 1)
+      ReadsDeclarator tokens Automatic from (ScalarDeclaration symbol (line_at tokens from) None) 1 (from + 1)
   initialised : {from symbol height to : ℕ} {value : SourceExpression} →
       HasName tokens from symbol →
       HasMark tokens (from + 1) marks.Assign →
       ReadsExpression tokens (from + 2) value height to →
-      ReadsDeclarator tokens from (ScalarDeclaration symbol (line_at tokens from) (Some value)) (height + 1) to
-  array : {from symbol length : ℕ} →
+      ReadsDeclarator tokens Automatic from (ScalarDeclaration symbol (line_at tokens from) (Some value)) (height + 1) to
+  array : {storage : Storage} {from symbol length : ℕ} →
       HasName tokens from symbol →
       HasMark tokens (from + 1) marks.LeftBracket →
       HasNumber tokens (from + 2) (pos length) →
       HasMark tokens (from + 3) marks.RightBracket →
-      ReadsDeclarator tokens from (ArrayDeclaration symbol (line_at tokens from) (line_at tokens (from + 2)) length) 1 (from + 4)
+      ReadsDeclarator tokens storage from (ArrayDeclaration symbol (line_at tokens from) (line_at tokens (from + 2)) length []) 1 (from + 4)
+  initialised_array : {from symbol length to : ℕ} {values : List Const} →
+      HasName tokens from symbol →
+      HasMark tokens (from + 1) marks.LeftBracket →
+      HasNumber tokens (from + 2) (pos length) →
+      HasMark tokens (from + 3) marks.RightBracket →
+      HasMark tokens (from + 4) marks.Assign →
+      HasMark tokens (from + 5) marks.LeftBrace →
+      ReadsConstants tokens (from + 6) values to →
+      ReadsDeclarator tokens Static from (ArrayDeclaration symbol (line_at tokens from) (line_at tokens (from + 2)) length values) 1 to
 
 -- declarator {`,` declarator} `;`
-pub data ReadsDeclarators (tokens : List Token) : (from : ℕ) → (trees : SourceList) → (height to : ℕ) → Type 0 where
-  last : {from height q : ℕ} {tree : SourceStatement} →
-      ReadsDeclarator tokens from tree height q →
+pub data ReadsDeclarators (tokens : List Token) : (storage : Storage) → (from : ℕ) → (trees : SourceList) → (height to : ℕ) → Type 0 where
+  last : {storage : Storage} {from height q : ℕ} {tree : SourceStatement} →
+      ReadsDeclarator tokens storage from tree height q →
       HasMark tokens q marks.Semicolon →
-      ReadsDeclarators tokens from (More tree No_more) height (q + 1)
-  comma : {from i q j to : ℕ} {tree : SourceStatement} {rest : SourceList} →
-      ReadsDeclarator tokens from tree i q →
+      ReadsDeclarators tokens storage from (More tree No_more) height (q + 1)
+  comma : {storage : Storage} {from i q j to : ℕ} {tree : SourceStatement} {rest : SourceList} →
+      ReadsDeclarator tokens storage from tree i q →
       HasMark tokens q marks.Comma →
-      ReadsDeclarators tokens (q + 1) rest j to →
-      ReadsDeclarators tokens from (More tree rest) (max i j) to
+      ReadsDeclarators tokens storage (q + 1) rest j to →
+      ReadsDeclarators tokens storage from (More tree rest) (max i j) to
 
--- declaration: `int` declarator {`,` declarator} `;`
-pub data ReadsDeclaration (tokens : List Token) : (from : ℕ) → (trees : SourceList) → (height to : ℕ) → Type 0 where
-  declaration : {from height to : ℕ} {trees : SourceList} →
+-- declaration: [`static`] `int` declarator {`,` declarator} `;`
+pub data ReadsDeclaration (tokens : List Token) : (storage : Storage) → (from : ℕ) → (trees : SourceList) → (height to : ℕ) → Type 0 where
+  automatic : {from height to : ℕ} {trees : SourceList} →
       HasKeyword tokens from keys.Int →
-      ReadsDeclarators tokens (from + 1) trees height to →
-      ReadsDeclaration tokens from trees height to
+      ReadsDeclarators tokens Automatic (from + 1) trees height to →
+      ReadsDeclaration tokens Automatic from trees height to
+  static : {from height to : ℕ} {trees : SourceList} →
+      HasKeyword tokens from keys.Static →
+      HasKeyword tokens (from + 1) keys.Int →
+      ReadsDeclarators tokens Static (from + 2) trees height to →
+      ReadsDeclaration tokens Static from trees height to
 
--- first: declaration, or [simple] `;`
+-- first: declaration without `static` (C17 6.8.5), or [simple] `;`
 pub data ReadsFirst (tokens : List Token) : (from : ℕ) → (trees : SourceList) → (height to : ℕ) → Type 0 where
   declared : {from height to : ℕ} {trees : SourceList} →
-      ReadsDeclaration tokens from trees height to →
+      ReadsDeclaration tokens Automatic from trees height to →
       ReadsFirst tokens from trees height to
   simple : {from height q : ℕ} {tree : SourceStatement} →
       ReadsSimple tokens from tree height q →
@@ -153,7 +199,7 @@ ends_open (WhileLoop line test body) = ends_open body
 ends_open (ForLoop line first test step body) = ends_open body
 ends_open (Scope items) = false
 ends_open (ScalarDeclaration symbol line initial) = false
-ends_open (ArrayDeclaration symbol line at length) = false
+ends_open (ArrayDeclaration symbol line at length values) = false
 ends_open (Assignment symbol line index bracket op at value) = false
 ends_open (Printing line value) = false
 ends_open (Evaluation line value) = false
@@ -229,8 +275,8 @@ mutual
     close : {from : ℕ} →
         HasMark tokens from marks.RightBrace →
         ReadsItems tokens from No_more 0 (from + 1)
-    declared : {from i q j to : ℕ} {trees rest : SourceList} →
-        ReadsDeclaration tokens from trees i q →
+    declared : {storage : Storage} {from i q j to : ℕ} {trees rest : SourceList} →
+        ReadsDeclaration tokens storage from trees i q →
         ReadsItems tokens q rest j to →
         ReadsItems tokens from (appended trees rest) (max i j) to
     stated : {from i q j to : ℕ} {tree : SourceStatement} {rest : SourceList} →

@@ -3,14 +3,17 @@ ghost use Rattle.pc_word.specs.SourceLimits.{most_tokens};
 ghost use Rattle.pc_syntax.specs.Erasure.{statement_of, list_of};
 ghost use Rattle.pc_parser.specs.Places.{kind_at, line_at};
 ghost use Rattle.pc_syntax.specs.Source.{ScalarDeclaration};
-ghost use Rattle.pc_parser.specs.models.StatementParser.{array, initialised, declarator_at, declarators_at, declaration_at, length_of};
+ghost use Rattle.pc_parser.specs.models.StatementParser.{array, initialised, declarator_on, declarator_at, declarators_at, declaration_at, static_at, length_of, symbol_of};
 ghost use Rattle.pc_parser.specs.models.Parsing.{GivesParsed, AtPlace, UpTo, behind};
 
+use crate::arrays::fixed;
 use crate::expression::{EXPRESSION, expression};
 use crate::outcome::{Failure, Parsed, within};
-use crate::place::{expect, is_mark, length_at, line_at, symbol_at};
-use pc_lexer::{Mark, Token};
+use crate::place::{expect, expect_key, is_mark, length_at, line_at, symbol_at};
+use crate::storage::Storage;
+use pc_lexer::{Keyword, Mark, Token};
 use pc_syntax::{Stmt, StmtList};
+use pc_word::Seq;
 use std::alloc::Global;
 
 /// Reads a declaration, whose `int` stands at the place, and puts a statement for each declarator after
@@ -30,7 +33,27 @@ pub(crate) fn declaration(
     ensures further { IfOk result (λ parsed. place < parsed.next) }
 {
     within(1, budget, place)?;
-    declarators(alloc, tokens, budget, items, place + 1)
+    declarators(alloc, tokens, budget, Storage::Automatic, items, place + 1)
+}
+
+/// The same of a declaration whose `static` stands at the place.
+#[tactic(auto, using(crate::proofs::Budgets::budgets), unfolding(crate::specs::models::StatementParser::static_at))]
+pub(crate) fn static_declaration(
+    alloc: Global,
+    tokens: &[Token],
+    budget: usize,
+    items: StmtList,
+    place: usize,
+) -> Result<Parsed<StmtList>, Failure>
+    requires stands { AtPlace tokens.now budget place }
+    requires more { place + 1 ≤ length tokens.now }
+    ensures gives { GivesParsed list_of result (behind (list_of items) (static_at tokens.now budget place)) }
+    ensures ends { IfOk result (λ parsed. UpTo tokens.now budget parsed.height parsed.next) }
+    ensures further { IfOk result (λ parsed. place < parsed.next) }
+{
+    within(1, budget, place)?;
+    expect_key(tokens, Keyword::Int, place + 1)?;
+    declarators(alloc, tokens, budget, Storage::Static, items, place + 2)
 }
 
 /// Reads declarators up to a `;`, and appends them to the items before them.
@@ -38,21 +61,22 @@ fn declarators(
     alloc: Global,
     tokens: &[Token],
     budget: usize,
+    storage: Storage,
     mut items: StmtList,
     place: usize,
 ) -> Result<Parsed<StmtList>, Failure>
     requires stands { AtPlace tokens.now budget place }
     requires some { 1 ≤ budget }
-    ensures gives { GivesParsed list_of result (behind (list_of items) (declarators_at tokens.now budget (length tokens.now + 1) place)) }
+    ensures gives { GivesParsed list_of result (behind (list_of items) (declarators_at tokens.now budget storage (length tokens.now + 1) place)) }
     ensures ends { IfOk result (λ parsed. UpTo tokens.now budget parsed.height parsed.next) }
     ensures further { IfOk result (λ parsed. place < parsed.next) }
 {
-    let first = declarator(alloc, tokens, budget, place)?;
+    let first = declarator(alloc, tokens, budget, storage, place)?;
     items.push(first.tree)?;
     let mut height = first.height;
     let mut next = first.next;
     while is_mark(tokens, Mark::Comma, next) {
-        let other = declarator(alloc, tokens, budget, next + 1)?;
+        let other = declarator(alloc, tokens, budget, storage, next + 1)?;
         items.push(other.tree)?;
         height = height.max(other.height);
         next = other.next;
@@ -66,8 +90,29 @@ fn declarators(
 }
 
 /// Reads a declarator.
-#[tactic(auto, using(crate::proofs::Budgets::budgets), unfolding(crate::specs::models::StatementParser::declarator_at, crate::specs::models::StatementParser::declarator_on))]
+#[tactic(auto, unfolding(crate::specs::models::StatementParser::declarator_at))]
 fn declarator(
+    alloc: Global,
+    tokens: &[Token],
+    budget: usize,
+    storage: Storage,
+    place: usize,
+) -> Result<Parsed<Stmt>, Failure>
+    requires stands { AtPlace tokens.now budget place }
+    requires some { 1 ≤ budget }
+    ensures gives { GivesParsed statement_of result (declarator_at tokens.now budget storage place) }
+    ensures ends { IfOk result (λ parsed. UpTo tokens.now budget parsed.height parsed.next) }
+    ensures further { IfOk result (λ parsed. place < parsed.next) }
+{
+    match storage {
+        Storage::Automatic => automatic(alloc, tokens, budget, place),
+        Storage::Static => fixed(alloc, tokens, place),
+    }
+}
+
+/// Reads a declarator of a declaration without `static`.
+#[tactic(auto, using(crate::proofs::Budgets::budgets), unfolding(crate::specs::models::StatementParser::declarator_on))]
+fn automatic(
     alloc: Global,
     tokens: &[Token],
     budget: usize,
@@ -75,7 +120,7 @@ fn declarator(
 ) -> Result<Parsed<Stmt>, Failure>
     requires stands { AtPlace tokens.now budget place }
     requires some { 1 ≤ budget }
-    ensures gives { GivesParsed statement_of result (declarator_at tokens.now budget place) }
+    ensures gives { GivesParsed statement_of result (declarator_on tokens.now budget (symbol_of (kind_at tokens.now place)) place) }
     ensures ends { IfOk result (λ parsed. UpTo tokens.now budget parsed.height parsed.next) }
     ensures further { IfOk result (λ parsed. place < parsed.next) }
 {
@@ -85,7 +130,7 @@ fn declarator(
                 return initialised(alloc, tokens, budget, symbol, place);
             }
             if is_mark(tokens, Mark::LeftBracket, place + 1) {
-                return array(tokens, symbol, place);
+                return array(alloc, tokens, symbol, place);
             }
             Ok(scalar(tokens, symbol, place))
         }
@@ -144,7 +189,12 @@ fn initialised(
 
 /// Reads the length of an array.
 #[tactic(auto, using(crate::proofs::Budgets::budgets, crate::proofs::Budgets::tree_forms), unfolding(crate::specs::models::StatementParser::array))]
-fn array(tokens: &[Token], symbol: u32, place: usize) -> Result<Parsed<Stmt>, Failure>
+fn array(
+    alloc: Global,
+    tokens: &[Token],
+    symbol: u32,
+    place: usize,
+) -> Result<Parsed<Stmt>, Failure>
     requires { place + 2 ≤ length tokens.now }
     ensures gives { GivesParsed statement_of result (array tokens.now symbol place (length_of (kind_at tokens.now (place + 2)))) }
     ensures ends { IfOk result (λ parsed. (parsed.height ≡ 1) × (parsed.next ≤ length tokens.now) × (place < parsed.next)) }
@@ -160,6 +210,7 @@ fn array(tokens: &[Token], symbol: u32, place: usize) -> Result<Parsed<Stmt>, Fa
                     line,
                     at,
                     length,
+                    values: Seq::new(alloc),
                 },
                 height: 1,
                 next: place + 4,

@@ -1,6 +1,7 @@
 //! The parser: the tokens of a source text become a program.
 #![tactic(auto)]
 
+mod arrays;
 mod declaration;
 mod expression;
 mod loops;
@@ -9,6 +10,7 @@ mod outcome;
 mod place;
 mod simple;
 mod statement;
+mod storage;
 mod target;
 mod tree;
 mod unit;

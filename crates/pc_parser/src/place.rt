@@ -3,7 +3,7 @@ ghost use Rattle.std.specs.Bool.{OnTrue};
 ghost use Rattle.pc_parser.specs.Places.{kind_at, line_at};
 ghost use Rattle.pc_parser.specs.models.Tests.{is_mark, is_key};
 ghost use Rattle.pc_parser.specs.models.ExpressionParser.{operator_from, sign_of};
-ghost use Rattle.pc_parser.specs.models.StatementParser.{assignment_from, step_from, symbol_of, length_of};
+ghost use Rattle.pc_parser.specs.models.StatementParser.{assignment_from, step_from, symbol_of, length_of, number_of};
 
 use crate::operator::{Operator, assignment_of, operator_of, prefix_of, step_of};
 use crate::outcome::Failure;
@@ -171,6 +171,21 @@ pub(crate) fn length_at(tokens: &[Token], place: usize) -> Option<u32>
 {
     match kind_at(tokens, place) {
         Some(TokenKind::Number { value }) => u32::try_from(value).ok(),
+        Some(TokenKind::Name { .. }) => None,
+        Some(TokenKind::Key { .. }) => None,
+        Some(TokenKind::Mark { .. }) => None,
+        None => None,
+    }
+}
+
+/// The value of the number at a place.
+#[tactic(auto, unfolding(crate::specs::models::StatementParser::number_of))]
+pub(crate) fn number_at(tokens: &[Token], place: usize) -> Option<i32>
+    ensures value { result ≡ number_of (kind_at tokens.now place) }
+    ensures inside { OnSome result (place < length tokens.now) }
+{
+    match kind_at(tokens, place) {
+        Some(TokenKind::Number { value }) => Some(value),
         Some(TokenKind::Name { .. }) => None,
         Some(TokenKind::Key { .. }) => None,
         Some(TokenKind::Mark { .. }) => None,

@@ -3,7 +3,7 @@ ghost use Rattle.pc_syntax.specs.Erasure.{expression_of, statement_of, list_of};
 ghost use Rattle.pc_parser.specs.models.StatementParser.{block_at, items_at, item_at, otherwise_at, branch_at, lone, return_at, ended_at, keyed, started, statement_at, statement_below};
 ghost use Rattle.pc_parser.specs.models.Parsing.{GivesParsed, AtPlace, UpTo, behind};
 
-use crate::declaration::declaration;
+use crate::declaration::{declaration, static_declaration};
 use crate::expression::{EXPRESSION, expression};
 use crate::loops::{do_loop, for_loop, while_loop};
 use crate::outcome::{Failure, Parsed, within};
@@ -193,6 +193,9 @@ fn item(
 {
     if is_key(tokens, Keyword::Int, place) {
         return declaration(alloc, tokens, budget - 1, items, place);
+    }
+    if is_key(tokens, Keyword::Static, place) {
+        return static_declaration(alloc, tokens, budget - 1, items, place);
     }
     let stated = statement(alloc, tokens, budget - 1, place)?;
     items.push(stated.tree)?;

@@ -8,6 +8,7 @@ use Rattle.pc_word.specs.declared.item.MachineFault.{MachineFault}
 use Rattle.pc_word.specs.declared.item.End.{End}
 use Rattle.pc_word.specs.declared.item.End.TheVariants.{Fault}
 use Rattle.pc_word.specs.Word.{IsWord, holds}
+use Rattle.pc_word.specs.Data.{first_cells}
 use Rattle.pc_word.specs.Run.{Answers, AgreeOnInputs, Step, Goes, Stops, after_printing, seen_of, run_from, reach, reached_of}
 use Rattle.pc_word.specs.State.{State}
 use Rattle.pc_word.specs.Items.{operand_value, operands_of, dest_of}
@@ -227,12 +228,12 @@ module _ (change : Change) where
     moves here there c = moves_along here.node there.node here.state there.state c.leads.way c.leads.stays c.reached c.known c.alike
 
     -- the graphs begin where they correspond
-    start_corresponds : (input : List ℤ) → All IsWord input → Corresponds change (flow_start change.old.entry input) (flow_start change.new.entry input)
+    start_corresponds : (input : List ℤ) → All IsWord input → Corresponds change (flow_start change.old.entry change.old.initial input) (flow_start change.new.entry change.new.initial input)
     start_corresponds input words = record {
       leads = is.begins;
       reached = Entry;
       known = is.known_first input words;
-      alike = record { same_cells = refl; same_input = refl; same_names = λ x m. refl };
+      alike = record { same_cells = ap first_cells is.same_initial; same_input = refl; same_names = λ x m. refl };
     }
 
     -- ---- agreement
@@ -262,8 +263,8 @@ module _ (change : Change) where
     -- THE LAW: a graph whose nodes are changed one at a time shows what it showed, on every input of words and in both directions
     pub change_agrees : AgreeOnInputs (flow_run change.new) (flow_run change.old)
     change_agrees input words =
-        let start = flow_start change.old.entry input in
-        let new_start = flow_start change.new.entry input in
+        let start = flow_start change.old.entry change.old.initial input in
+        let new_start = flow_start change.new.entry change.new.initial input in
         Agree-sym (λ n. run_from (flow_step change.old) n start) (λ n. run_from (flow_step change.new) n new_start)
         (Agree-simulated_in_time (flow_step change.old) (flow_step change.new) (Corresponds change) rank_of
         (λ here there c. meet_in_time here there (moves here there c)) start new_start (start_corresponds input words))
@@ -305,4 +306,4 @@ module _ (change : Change) where
 
     -- THE LAW OF PACE: such a graph is no slower, on any input of words
     pub change_paces : (input : List ℤ) → All IsWord input → (n : ℕ) → Answers (flow_run change.old input n) (flow_run change.new input n) (flow_run change.old input n).end
-    change_paces input words n = paced_from n (flow_start change.old.entry input) (flow_start change.new.entry input) (start_corresponds input words)
+    change_paces input words n = paced_from n (flow_start change.old.entry change.old.initial input) (flow_start change.new.entry change.new.initial input) (start_corresponds input words)

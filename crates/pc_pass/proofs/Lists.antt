@@ -19,6 +19,7 @@ keeps_refl flow = record {
   same_loops = refl;
   same_inside = refl;
   same_arrays = refl;
+  same_initial = refl;
 }
 
 -- what keeps a graph that keeps a graph keeps that
@@ -31,6 +32,7 @@ keeps_trans old mid new p q = record {
   same_loops = q.same_loops ∙ p.same_loops;
   same_inside = q.same_inside ∙ p.same_inside;
   same_arrays = q.same_arrays ∙ p.same_arrays;
+  same_initial = q.same_initial ∙ p.same_initial;
 }
 
 -- an equal graph keeps a graph as well

@@ -8,7 +8,7 @@ use Rattle.pc_flow.specs.FlowRun.{flow_run}
 
 -- The new graph shows what the old one shows, on every input of words and in both directions, and is no slower: on each such input,
 -- after as many nodes, it has shown at least what the old one has. It has as many nodes, the same loops, each node in the same
--- one, and the same arrays.
+-- one, and the same arrays, which begin with the same words.
 pub record Keeps (old new : FlowGraph) : Type 0 where
   pub agrees : AgreeOnInputs (flow_run new) (flow_run old)
   pub pace : (input : List ℤ) → All IsWord input → (n : ℕ) → Answers (flow_run old input n) (flow_run new input n) (flow_run old input n).end
@@ -16,6 +16,7 @@ pub record Keeps (old new : FlowGraph) : Type 0 where
   pub same_loops : new.loops ≡ old.loops
   pub same_inside : new.inside ≡ old.inside
   pub same_arrays : new.arrays ≡ old.arrays
+  pub same_initial : new.initial ≡ old.initial
 
 -- Each pass of a list is applied once, in order: the first to the first graph, and each other to the graph that the one before it
 -- left; the last graph is the one that the last pass left. `does` is what a pass does, between two graphs and from its count of

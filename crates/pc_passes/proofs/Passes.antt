@@ -1,9 +1,10 @@
 -- What the passes make of a graph.
-use Rattle.std.proofs.Common.{◌≡◌, ℕ, List, [], ◌∷◌, map, refl, sym, subst}
+use Rattle.std.proofs.Common.{◌≡◌, ℕ, List, [], ◌∷◌, map, refl, subst}
 use Rattle.std.specs.Prelude.{codes}
 use Rattle.pc_flow.specs.FlowGraph.{FlowGraph}
 use Rattle.pc_forward.specs.Forwarded.{Forwards}
 use Rattle.pc_pass.specs.Pass.{Chain, No_pass, One_pass}
+use Rattle.pc_ranges.specs.Ranged.{LeavesRanged}
 use Rattle.pc_scalar.specs.Cleared.{WritesAreLive}
 use Rattle.pc_scalar.specs.Copied.{NamesNoCopy}
 use Rattle.pc_scalar.specs.Folded.{IsFolded}
@@ -44,41 +45,49 @@ module _ {P : Type 0} (label : P → List ℕ) (changed : P → ℕ) (does : P �
   pub the_passes_make : Makes (AreThePasses label changed does) IsMadeByThePasses
   the_passes_make =
       first_makes (Leaves IsFolded) (codes "fold") _ _
+      (first_makes LeavesRanged (codes "ranges") _ _
       (first_makes (Leaves NamesNoCopy) (codes "copies") _ _
       (first_makes (Leaves ComputesNoneAgain) (codes "values") _ _
       (first_makes Forwards (codes "forward") _ _
       (first_makes (Leaves WritesAreLive) (codes "dead") _ _
-      none_makes))))
+      none_makes)))))
 
   -- such a list
-  pub are_the_passes : (passes : List P) (fold copies values forward dead : P) → passes ≡ fold ∷ copies ∷ values ∷ forward ∷ dead ∷ []
+  pub are_the_passes : (passes : List P) (fold ranges copies values forward dead : P) → passes ≡ fold ∷ ranges ∷ copies ∷ values ∷ forward ∷ dead ∷ []
       → IsFresh label changed does fold (codes "fold") (Leaves IsFolded)
+      → IsFresh label changed does ranges (codes "ranges") LeavesRanged
       → IsFresh label changed does copies (codes "copies") (Leaves NamesNoCopy)
       → IsFresh label changed does values (codes "values") (Leaves ComputesNoneAgain)
       → IsFresh label changed does forward (codes "forward") Forwards
       → IsFresh label changed does dead (codes "dead") (Leaves WritesAreLive)
       → AreThePasses label changed does passes
-  are_the_passes passes fold copies values forward dead is one two three four five = record {
+  are_the_passes passes fold ranges copies values forward dead is one two three four five six = record {
     first = fold;
     others = _;
     are = is;
     fresh = one;
     follow = record {
-      first = copies;
+      first = ranges;
       others = _;
       are = refl;
       fresh = two;
       follow = record {
-        first = values;
+        first = copies;
         others = _;
         are = refl;
         fresh = three;
         follow = record {
-          first = forward;
+          first = values;
           others = _;
           are = refl;
           fresh = four;
-          follow = record { first = dead; others = []; are = refl; fresh = five; follow = refl };
+          follow = record {
+            first = forward;
+            others = _;
+            are = refl;
+            fresh = five;
+            follow = record { first = dead; others = []; are = refl; fresh = six; follow = refl };
+          };
         };
       };
     };

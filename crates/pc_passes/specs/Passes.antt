@@ -2,6 +2,7 @@
 use Rattle.std.specs.Prelude.{◌≡◌, ℕ, List, [], ◌∷◌, codes}
 use Rattle.pc_flow.specs.FlowGraph.{FlowGraph}
 use Rattle.pc_forward.specs.Forwarded.{Forwards}
+use Rattle.pc_ranges.specs.Ranged.{LeavesRanged}
 use Rattle.pc_scalar.specs.Cleared.{WritesAreLive}
 use Rattle.pc_scalar.specs.Copied.{NamesNoCopy}
 use Rattle.pc_scalar.specs.Folded.{IsFolded}
@@ -36,11 +37,12 @@ NoMore passes = passes ≡ []
 abbrev pub AreThePasses : {P : Type 0} → (P → List ℕ) → (P → ℕ) → (P → Doing) → List P → Type 0
 AreThePasses label changed does =
     First label changed does (codes "fold") (Leaves IsFolded)
+    (First label changed does (codes "ranges") LeavesRanged
     (First label changed does (codes "copies") (Leaves NamesNoCopy)
     (First label changed does (codes "values") (Leaves ComputesNoneAgain)
     (First label changed does (codes "forward") Forwards
     (First label changed does (codes "dead") (Leaves WritesAreLive)
-    NoMore))))
+    NoMore)))))
 
 -- ---- what they make
 
@@ -63,8 +65,9 @@ pub record Nothing_more (first last : FlowGraph) (counts : List ℕ) : Type 0 wh
 abbrev pub IsMadeByThePasses : FlowGraph → FlowGraph → List ℕ → Type 0
 IsMadeByThePasses =
     Then (Leaves IsFolded)
+    (Then LeavesRanged
     (Then (Leaves NamesNoCopy)
     (Then (Leaves ComputesNoneAgain)
     (Then Forwards
     (Then (Leaves WritesAreLive)
-    Nothing_more))))
+    Nothing_more)))))

@@ -395,7 +395,7 @@ nothing_within flow at s = record { lie = λ x. in_all (s.names x); done = tt }
 
 pub nothing_known : (flow : FlowGraph) (map : List Bounds) → map ≡ [] → IsKept flow map
 nothing_known flow map e = rw e (record {
-  begins = λ input. nothing_within flow flow.entry (start_state input);
+  begins = λ input. nothing_within flow flow.entry (start_state flow.initial input);
   goes_on = λ here next printed within step. nothing_within flow next.node next.state;
 })
 

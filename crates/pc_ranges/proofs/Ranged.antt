@@ -211,6 +211,7 @@ module _ (flow : FlowGraph) (map : List Bounds) (plan : Plan) (is : IsRanging fl
   is_change = record {
     is_flow = is.taken_sides.is_flow;
     same_arrays = refl;
+    same_initial = refl;
     begins = rw is.entry (leads flow.entry is.taken_sides.is_flow.begins);
     known_first = λ input words. is.kept.begins input;
     skips = skips;
@@ -229,6 +230,7 @@ module _ (flow : FlowGraph) (map : List Bounds) (plan : Plan) (is : IsRanging fl
     same_loops = refl;
     same_inside = refl;
     same_arrays = refl;
+    same_initial = refl;
   }
 
   -- ---- and is rewritten by the map

@@ -34,6 +34,6 @@ bounds_at map at = bounds_if (slice_get map at)
 -- Every edge of a graph keeps a map: the start is within what is known at the entry, and a step from a state that is within what
 -- is known at its node leads to one that is within what is known at the next.
 pub record IsKept (flow : FlowGraph) (map : List Bounds) : Type 0 where
-  pub begins : (input : List ℤ) → IsWithin flow (bounds_at map flow.entry) (start_state input)
+  pub begins : (input : List ℤ) → IsWithin flow (bounds_at map flow.entry) (start_state flow.initial input)
   pub goes_on : (here next : FlowState) (printed : List ℤ) → IsWithin flow (bounds_at map here.node) here.state
       → flow_step flow here ≡ Goes printed next → IsWithin flow (bounds_at map next.node) next.state

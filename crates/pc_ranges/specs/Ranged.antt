@@ -8,6 +8,7 @@ use Rattle.pc_flow.specs.declared.node.FlowNode.TheVariants.{Op, Test}
 use Rattle.pc_flow.specs.FlowGraph.{FlowGraph}
 use Rattle.pc_flow.specs.Reachable.{IsReachableNode}
 use Rattle.pc_live.specs.Live.{node_reads}
+use Rattle.pc_scalar.specs.Leaves.{Leaves}
 use Rattle.pc_ranges.specs.declared.bounds.Bounds.{Bounds}
 use Rattle.pc_ranges.specs.Interval.{is_single, is_zero, lacks_zero, interval_of, operand_interval}
 use Rattle.pc_ranges.specs.Bounds.{bounds_at, IsKept}
@@ -26,3 +27,8 @@ pub record IsRanged (old new : FlowGraph) : Type 0 where
       → is_single (over op (operand_interval (bounds_at map at).intervals left) (operand_interval (bounds_at map at).intervals right)) ≡ false
   pub names_many : (at variable : ℕ) (node : FlowNode) → IsReachableNode new at → slice_get new.nodes at ≡ Some node
       → node_reads node variable ≡ true → is_single (interval_of (bounds_at map at).intervals variable) ≡ false
+
+-- The pass: it leaves such a graph, the loops' tests are as they were, and the count of changes rose by the number of the nodes that it
+-- changed or skipped.
+abbrev pub LeavesRanged : FlowGraph → FlowGraph → ℕ → ℕ → Type 0
+LeavesRanged old = Leaves (IsRanged old) old

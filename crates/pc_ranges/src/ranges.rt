@@ -1,7 +1,6 @@
 //! The pass that decides tests by intervals.
 ghost use Rattle.std.specs.Prelude.{◌≡◌, codes};
-ghost use Rattle.pc_scalar.specs.Leaves.{Leaves};
-ghost use Rattle.pc_ranges.specs.Ranged.{IsRanged};
+ghost use Rattle.pc_ranges.specs.Ranged.{LeavesRanged};
 
 use crate::rewriting::range_flow;
 use pc_flow::Flow;
@@ -40,7 +39,7 @@ impl Pass for Ranges {
 
     ghost runs = { λ it. it.tally.runs };
 
-    ghost does = { λ it old. Leaves (IsRanged old) old };
+    ghost does = { λ it. LeavesRanged };
 
     fn name(&self) -> &str {
         "ranges"

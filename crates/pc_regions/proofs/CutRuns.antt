@@ -106,8 +106,8 @@ region_shows flow table cut number head there s n =
 
 -- so the table shows what the graph shows
 pub cut_shows : ACutRunsAsItsGraph
-cut_shows flow table cut input n = region_shows flow table cut 0 flow.entry cut.entry (start_state input) n
+cut_shows flow table cut input n = region_shows flow table cut 0 flow.entry cut.entry (start_state flow.initial input) n
 
 -- so they agree
-pub cut_agrees : (flow : FlowGraph) (table : Table) → IsCutOf flow table → AgreeOnInputs (table_run table) (flow_run flow)
-cut_agrees flow table cut input words = Agree-equal (table_run table input) (flow_run flow input) (cut_shows flow table cut input)
+pub cut_agrees : (flow : FlowGraph) (table : Table) → IsCutOf flow table → AgreeOnInputs (table_run table flow.initial) (flow_run flow)
+cut_agrees flow table cut input words = Agree-equal (table_run table flow.initial input) (flow_run flow input) (cut_shows flow table cut input)

@@ -12,9 +12,10 @@ use Rattle.pc_regions.specs.Cut.{IsCutOf, heads_of}
 abbrev pub AGraphHasOneCut : Type 0
 AGraphHasOneCut = (flow : FlowGraph) → IsFlow flow → (one other : Table) → IsCutOf flow one → IsCutOf flow other → one ≡ other
 
--- a cut shows on an input, after every number of items and tests, what its graph shows after as many nodes
+-- a cut shows on an input, after every number of items and tests, what its graph shows after as many nodes,
+-- where the arrays begin with the graph's data
 abbrev pub ACutRunsAsItsGraph : Type 0
-ACutRunsAsItsGraph = (flow : FlowGraph) (table : Table) → IsCutOf flow table → (input : List ℤ) (n : ℕ) → table_run table input n ≡ flow_run flow input n
+ACutRunsAsItsGraph = (flow : FlowGraph) (table : Table) → IsCutOf flow table → (input : List ℤ) (n : ℕ) → table_run table flow.initial input n ≡ flow_run flow input n
 
 -- each region of it, from any state, shows after every number of items and tests what the graph shows after as many nodes from
 -- the region's head

@@ -22,7 +22,8 @@ use std::alloc::Global;
 /// Regions begin at heads: the entry, each node to which two edges or more lead from reachable nodes,
 /// the header of each loop, and each node that finds no room in the region that leads to it. A region
 /// takes the nodes below its head in preorder, the yes side first, up to 128 nodes. Region 0 has the
-/// entry as its head, and regions have their numbers in the order in which they are first named.
+/// entry as its head, and regions have their numbers in the order in which they are first named. The
+/// words with which arrays begin stay with the graph, and the table runs on them.
 ///
 /// It takes time in proportion to the graph, and to the loops that stand round its heads and that its
 /// edges enter and leave.
@@ -30,8 +31,8 @@ pub fn regions(alloc: Global, flow: &Flow, live: &Liveness) -> Result<RegionTabl
     requires { IsLivenessOf flow.now live.now }
     ensures cut { IfOk result (λ table. IsCutOf flow.now (table_of table)) }
     ensures kept { IfOk result (λ table. TableKeeps (table_of table)) }
-    ensures same { IfOk result (λ table. (input : List ℤ) (n : ℕ) → table_run (table_of table) input n ≡ flow_run flow.now input n) }
-    ensures agree { IfOk result (λ table. AgreeOnInputs (table_run (table_of table)) (flow_run flow.now)) }
+    ensures same { IfOk result (λ table. (input : List ℤ) (n : ℕ) → table_run (table_of table) flow.now.initial input n ≡ flow_run flow.now input n) }
+    ensures agree { IfOk result (λ table. AgreeOnInputs (table_run (table_of table) flow.now.initial) (flow_run flow.now)) }
 {
     let heads = find_heads(alloc, flow)?;
     let regions = cut(alloc, flow, live, &heads)?;

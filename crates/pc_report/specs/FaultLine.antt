@@ -48,6 +48,7 @@ line_fault_text at_line.OutsideLoop = codes "outside a loop"
 line_fault_text at_line.TooManyScalars = codes "too many scalars"
 line_fault_text at_line.TooManyArrays = codes "too many arrays"
 line_fault_text at_line.TooManyElements = codes "too many elements"
+line_fault_text at_line.TooManyValues = codes "too many values"
 line_fault_text at_line.ExpressionTooDeep = codes "expression too deep"
 
 -- what is wrong with a source

@@ -36,6 +36,7 @@ impl fmt::Display for LineFault {
             LineFault::TooManyScalars => "too many scalars",
             LineFault::TooManyArrays => "too many arrays",
             LineFault::TooManyElements => "too many elements",
+            LineFault::TooManyValues => "too many values",
             LineFault::ExpressionTooDeep => "expression too deep",
         })
     }

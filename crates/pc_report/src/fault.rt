@@ -86,6 +86,8 @@ pub enum LineFault {
     TooManyArrays,
     /// There are more than 1,048,576 elements in all.
     TooManyElements,
+    /// An array has more values than elements.
+    TooManyValues,
     /// An expression needs more than 32 temporaries.
     ExpressionTooDeep,
 }

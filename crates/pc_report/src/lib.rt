@@ -12,4 +12,4 @@ pub use error::ReportError;
 pub use fault::{InputFault, LineFault, ObjectFault, SourceFault, Speaker, ToolFault};
 pub use lines::{fault_text, out_of_memory_line};
 pub use report::{PassFact, ReportFacts, push_note_words, report_text};
-pub use words::trap_words;
+pub use words::{machine_fault_words, trap_words};

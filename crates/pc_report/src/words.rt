@@ -36,7 +36,7 @@ pub(crate) fn flaw_word(flaw: Flaw) -> &'static str
 }
 
 /// What a machine's fault is called.
-pub(crate) fn machine_fault_words(fault: MachineFault) -> &'static str
+pub fn machine_fault_words(fault: MachineFault) -> &'static str
     ensures { result.now ≡ machine_fault_text fault }
 {
     match fault {

@@ -345,6 +345,7 @@ module _ (flow : FlowGraph) (plan : Plan) (is : IsClearing flow plan) where
   is_change = record {
     is_flow = is_flow;
     same_arrays = refl;
+    same_initial = refl;
     begins = rw is.entry (leads flow.entry is_flow.begins);
     known_first = λ input words. tt;
     skips = skips;
@@ -363,6 +364,7 @@ module _ (flow : FlowGraph) (plan : Plan) (is : IsClearing flow plan) where
     same_loops = refl;
     same_inside = refl;
     same_arrays = refl;
+    same_initial = refl;
   }
 
   -- ---- what is left is live

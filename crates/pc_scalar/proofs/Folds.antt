@@ -26,7 +26,8 @@ use Rattle.pc_scalar.specs.LoopTests.{KeepsLoopTests}
 use Rattle.pc_scalar.specs.models.Plan.{Fits, planned}
 use Rattle.pc_scalar.specs.models.Ends.{Jump, FallsAlong, NodeThere, led}
 use Rattle.pc_scalar.specs.models.Folding.{folded_item, folded, taken, AreTaken, IsFolding}
-use Rattle.pc_scalar.proofs.Skipping.{sides_there, fits_there, KeepsEdges, IsSkipping, mapped_made, new_there, new_made_of, new_as_many, skipping_fits, end_leads, reachable_stays, skipping_keeps_tests}
+use Rattle.pc_scalar.proofs.Skipping.{sides_there, fits_there, KeepsEdges, IsSkipping, mapped_made, new_there, new_made_of}
+use Rattle.pc_scalar.proofs.Skipping.{new_as_many, skipping_fits, end_leads, reachable_stays, skipping_keeps_tests}
 use Rattle.pc_scalar.proofs.Skipped.{Tells, skipping_counts}
 
 -- ---- folded items
@@ -248,6 +249,7 @@ module _ (flow : FlowGraph) (plan : Plan) (is : IsFolding flow plan) where
   is_change = record {
     is_flow = is.taken_sides.is_flow;
     same_arrays = refl;
+    same_initial = refl;
     begins = rw is.entry (leads flow.entry is.taken_sides.is_flow.begins);
     known_first = λ input words. tt;
     skips = skips;
@@ -266,6 +268,7 @@ module _ (flow : FlowGraph) (plan : Plan) (is : IsFolding flow plan) where
     same_loops = refl;
     same_inside = refl;
     same_arrays = refl;
+    same_initial = refl;
   }
 
   -- ---- and is folded

@@ -125,8 +125,9 @@ module _ (flow : FlowGraph) (rule : Rule) (plan : Plan) (is : IsRewriting flow r
   is_change = record {
     is_flow = is.is_flow;
     same_arrays = refl;
+    same_initial = refl;
     begins = subst (LeadsPast no_skip flow.entry) (sym is.entry) (leads_there flow.entry);
-    known_first = λ input words. known_entry (start_state input) flow.entry refl;
+    known_first = λ input words. known_entry (start_state flow.initial input) flow.entry refl;
     skips = λ at next reached h. absurd h;
     becomes = λ at node reached there none.
         let w = is.written at reached in
@@ -146,6 +147,7 @@ module _ (flow : FlowGraph) (rule : Rule) (plan : Plan) (is : IsRewriting flow r
     same_loops = refl;
     same_inside = refl;
     same_arrays = refl;
+    same_initial = refl;
   }
 
   -- ---- tests of loops

@@ -5,6 +5,7 @@ use Rattle.std.specs.declared.boxed.Box.{Box}
 use Rattle.std.specs.declared.alloc.Global.{Global}
 use Rattle.pc_syntax.specs.declared.operator.UnaryOp.{UnaryOp}
 use Rattle.pc_syntax.specs.declared.operator.BinaryOp.{BinaryOp}
+use Rattle.pc_syntax.specs.declared.constant.Const.{Const}
 use Rattle.pc_syntax.specs.declared.expression.Expr.{Expr, Lit, Name, Read, Element, Unary, Binary, Both, Either, Choose}
 use Rattle.pc_syntax.specs.declared.statement.Stmt.{Stmt, Block, Scalar, Array, Assign, Print, Eval, If, While, Do, For, Break, Continue, Return}
 use Rattle.pc_syntax.specs.declared.statement.Stmt.{Empty, Row_of-Stmt, end_of-Stmt, more_of-Stmt, items-the_row-Stmt, items_hidden-the_row-Stmt-0}
@@ -78,10 +79,10 @@ module _ (s : Stmt) where
   unfolding statement_of
   statement_of-Scalar symbol line init is = ap statement_of is
 
-  pub statement_of-Array : (symbol line at length : ℕ) → s ≡ Array symbol line at length →
-      statement_of s ≡ ArrayDeclaration symbol line at length
+  pub statement_of-Array : (symbol line at length : ℕ) (values : List Const) → s ≡ Array symbol line at length values →
+      statement_of s ≡ ArrayDeclaration symbol line at length values
   unfolding statement_of
-  statement_of-Array symbol line at length is = ap statement_of is
+  statement_of-Array symbol line at length values is = ap statement_of is
 
   pub statement_of-Assign : (symbol line : ℕ) (index : Option Expr) (bracket : ℕ) (op : Option BinaryOp) (at : ℕ) (value : Expr) →
       s ≡ Assign symbol line index bracket op at value →
@@ -173,8 +174,9 @@ statement_of-made_Block items = statement_of-Block (Block items) items refl
 pub statement_of-made_Scalar : (symbol line : ℕ) (init : Option Expr) → statement_of (Scalar symbol line init) ≡ ScalarDeclaration symbol line (option_map expression_of init)
 statement_of-made_Scalar symbol line init = statement_of-Scalar (Scalar symbol line init) symbol line init refl
 
-pub statement_of-made_Array : (symbol line at length : ℕ) → statement_of (Array symbol line at length) ≡ ArrayDeclaration symbol line at length
-statement_of-made_Array symbol line at length = statement_of-Array (Array symbol line at length) symbol line at length refl
+pub statement_of-made_Array : (symbol line at length : ℕ) (values : List Const) →
+    statement_of (Array symbol line at length values) ≡ ArrayDeclaration symbol line at length values
+statement_of-made_Array symbol line at length values = statement_of-Array (Array symbol line at length values) symbol line at length values refl
 
 pub statement_of-made_Assign : (symbol line : ℕ) (index : Option Expr) (bracket : ℕ) (op : Option BinaryOp) (at : ℕ) (value : Expr) →
     statement_of (Assign symbol line index bracket op at value) ≡ Assignment symbol line (option_map expression_of index) bracket op at (expression_of value)

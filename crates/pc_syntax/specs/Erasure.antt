@@ -28,7 +28,7 @@ unfoldable mutual
   pub statement_of : Stmt → SourceStatement
   statement_of (Block' n items) = Scope (row_of items)
   statement_of (Scalar symbol line init) = ScalarDeclaration symbol line (option_map expression_of init)
-  statement_of (Array symbol line at length) = ArrayDeclaration symbol line at length
+  statement_of (Array symbol line at length values) = ArrayDeclaration symbol line at length values
   statement_of (Assign symbol line index bracket op at value) =
       Assignment symbol line (option_map expression_of index) bracket op at (expression_of value)
   statement_of (Print line value) = Printing line (expression_of value)

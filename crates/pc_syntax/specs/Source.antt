@@ -3,6 +3,7 @@
 use Rattle.std.specs.Prelude.{ℕ, ℤ, Option, List}
 use Rattle.pc_syntax.specs.declared.operator.UnaryOp.{UnaryOp}
 use Rattle.pc_syntax.specs.declared.operator.BinaryOp.{BinaryOp}
+use Rattle.pc_syntax.specs.declared.constant.Const.{Const}
 
 -- an expression; a name is a symbol with its line, and the number before the parts of an operator or
 -- the index is the line of the operator or of the bracket
@@ -33,8 +34,8 @@ mutual
     Scope : (items : SourceList) → SourceStatement
     -- `int name;` or `int name = initial;`
     ScalarDeclaration : (symbol line : ℕ) → (initial : Option SourceExpression) → SourceStatement
-    -- `int name[length];`, where `at` is the length's line
-    ArrayDeclaration : (symbol line at length : ℕ) → SourceStatement
+    -- `int name[length];`, where `at` is the length's line; of a static array also with the values of its initialiser
+    ArrayDeclaration : (symbol line at length : ℕ) → (values : List Const) → SourceStatement
     -- an assignment to a name or an element, compound where there is an operator
     Assignment : (symbol line : ℕ) → (index : Option SourceExpression) → (bracket : ℕ) →
         (op : Option BinaryOp) → (at : ℕ) → (value : SourceExpression) → SourceStatement
@@ -75,11 +76,12 @@ mutual
 pub record SourceProgram : Type 0 where
   pub items : SourceList
 
--- A program whose names are numbers: how many scalars it declares, the lengths of its arrays, and its statements. A scalar
--- is named by its number among the scalars and an array by its number among the arrays.
+-- A program whose names are numbers: how many scalars it declares, the lengths of its arrays, the data with which each of them
+-- begins, and its statements. A scalar is named by its number among the scalars and an array by its number among the arrays.
 pub record ResolvedProgram : Type 0 where
   pub scalars : ℕ
   pub arrays : List ℕ
+  pub initial : List (List ℤ)
   pub body : SourceList
 
 -- the statements of the one list, and then those of the other

@@ -1,11 +1,13 @@
 //! The syntax tree of a source program, with the lines of the source that faults and traps name.
 #![tactic(auto)]
 
+mod constant;
 mod expression;
 mod operator;
 mod program;
 mod statement;
 
+pub use constant::{Const, ConstList};
 pub use expression::Expr;
 pub use operator::{BinaryOp, UnaryOp};
 pub use program::{Program, SyntaxError};

@@ -3,6 +3,7 @@ ghost use Rattle.pc_syntax.specs.Source.{ScalarDeclaration, ArrayDeclaration, As
 ghost use Rattle.pc_syntax.specs.Erasure.{expression_of, statement_of, list_of, optional_of};
 ghost use Rattle.pc_syntax.specs.models.Parts.{is_simple};
 
+use crate::constant::ConstList;
 use crate::expression::{Expr, copy_expression, copy_optional};
 use crate::operator::BinaryOp;
 use crate::program::SyntaxError;
@@ -29,12 +30,14 @@ pub enum Stmt {
         line: u32,
         init: Option<Expr>,
     },
-    /// The declarator of an array.
+    /// The declarator of an array. `values` are those of its initialiser, which a static array may have
+    /// (C17 6.7.9), and empty where there is none.
     Array {
         symbol: u32,
         line: u32,
         at: u32,
         length: u32,
+        values: ConstList,
     },
     /// An assignment. `op` is the operator of a compound one, and `++` and `--` are `+= 1` and `-= 1`.
     /// `bracket` is the line of `[`, and equals `line` where there is no index.
@@ -148,7 +151,8 @@ fn copy_simple(alloc: Global, from: &Stmt) -> Result<Stmt, SyntaxError>
             line,
             at,
             length,
-        } => Ok(array(*symbol, *line, *at, *length)),
+            values,
+        } => copy_array(alloc, *symbol, *line, *at, *length, values),
         Stmt::Assign {
             symbol,
             line,
@@ -193,17 +197,26 @@ fn copy_scalar(
     Ok(Stmt::Scalar { symbol, line, init })
 }
 
-/// The declarator of an array.
+/// The declarator of an array, with a copy of its values.
 #[tactic(auto, using(crate::proofs::ErasureLaws::statement_forms))]
-fn array(symbol: u32, line: u32, at: u32, length: u32) -> Stmt
-    ensures { statement_of result ≡ ArrayDeclaration symbol line at length }
+fn copy_array(
+    alloc: Global,
+    symbol: u32,
+    line: u32,
+    at: u32,
+    length: u32,
+    values: &ConstList,
+) -> Result<Stmt, SyntaxError>
+    ensures { IfOk result (λ copy. statement_of copy ≡ ArrayDeclaration symbol line at length values.now) }
 {
-    Stmt::Array {
+    let values = Seq::from_slice(alloc, values.as_slice())?;
+    Ok(Stmt::Array {
         symbol,
         line,
         at,
         length,
-    }
+        values,
+    })
 }
 
 /// An assignment, with copies of its index and its value.

@@ -49,6 +49,6 @@ region_step table place = region_step_at table place.tree place.state
 abbrev pub region_run : Table → TableTree → State → Run
 region_run table tree s n = run_from (region_step table) n (place_at table tree s)
 
--- the run of a table: of region 0, with all variables and elements 0
-abbrev pub table_run : Table → List ℤ → Run
-table_run table input = region_run table (Next 0) (start_state input)
+-- the run of a table: of region 0, with all variables 0, on arrays that begin with these data
+abbrev pub table_run : Table → List (List ℤ) → List ℤ → Run
+table_run table initial input = region_run table (Next 0) (start_state initial input)

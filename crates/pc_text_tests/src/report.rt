@@ -121,7 +121,7 @@ static SOURCES: [(SourceFault, &str); 4] = [
 ];
 
 /// At line 66.
-static LINE_FAULTS: [(LineFault, &str); 14] = [
+static LINE_FAULTS: [(LineFault, &str); 15] = [
     (
         LineFault::BadLiteral,
         "pcc: source: bad literal at line 66\n",
@@ -167,6 +167,10 @@ static LINE_FAULTS: [(LineFault, &str); 14] = [
     (
         LineFault::TooManyElements,
         "pcc: source: too many elements at line 66\n",
+    ),
+    (
+        LineFault::TooManyValues,
+        "pcc: source: too many values at line 66\n",
     ),
     (
         LineFault::ExpressionTooDeep,

@@ -1,8 +1,11 @@
 //! The texts of some objects, as another program makes them.
 
 use pc_object::decode;
-use pc_view::{graph_text, laws_of_graphs, laws_of_leading_rows, laws_of_listings, listing_text};
-use pc_word::MOST_OBJECT;
+use pc_view::{
+    Tally, graph_text, laws_of_graphs, laws_of_leading_rows, laws_of_listings, listing_text,
+    tallied_graph_text, tallied_listing_text,
+};
+use pc_word::{MOST_OBJECT, Seq};
 use std::alloc::Global;
 use std::test::Fail;
 
@@ -238,5 +241,54 @@ fn shows_objects(rt: HostRuntime) -> Result<(), Fail> {
     laws_of_graphs();
     laws_of_leading_rows();
     laws_of_listings();
+    Ok(())
+}
+
+/// The sum of three numbers.
+const SUM_TALLIED: &str = "\
+limits of a row: 8 items, 3 tests, 2 loads and stores; arrays: none\n\
+row 0: 1 of 8 items, 0 of 3 tests, 0 of 2 loads and stores; from rows: none; cycles: 1\n\
+\x20   r1 = more()\n\
+\x20   goto row 1; taken: 1\n\
+row 1: 2 of 8 items, 1 of 3 tests, 0 of 2 loads and stores; from rows: 0, 2; cycles: 4\n\
+\x20   if r1\n\
+\x20   yes r0 = read()\n\
+\x20   |   goto row 2; taken: 3\n\
+\x20   no  print(r2)\n\
+\x20       stop; taken: 1\n\
+row 2: 2 of 8 items, 0 of 3 tests, 0 of 2 loads and stores; from rows: 1; cycles: 3\n\
+\x20   r2 = r2 + r0\n\
+\x20   r1 = more()\n\
+\x20   goto row 1; taken: 3\n";
+
+const SUM_SHADED: &str = "\
+digraph rows {\n\
+\x20   node [shape=record];\n\
+\x20   0 [style=filled, fillcolor=\"0.000 0.12 1.000\", label=\"{row 0; cycles: 1|r1 = more()|<p> goto row 1}\"];\n\
+\x20   0:p -> 1 [label=\"1\"];\n\
+\x20   1 [style=filled, fillcolor=\"0.000 0.50 1.000\", label=\"{row 1; cycles: 4|if r1|{{yes|r0 = read()|<py> goto row 2}|{no|print(r2)|<pn> stop}}}\"];\n\
+\x20   1:py -> 2 [label=\"3\"];\n\
+\x20   2 [style=filled, fillcolor=\"0.000 0.37 1.000\", label=\"{row 2; cycles: 3|r2 = r2 + r0|r1 = more()|<p> goto row 1}\"];\n\
+\x20   2:p -> 1 [label=\"3\"];\n\
+}\n";
+
+#[test]
+fn tells_how_often_rows_ran(rt: HostRuntime) -> Result<(), Fail> {
+    let alloc = rt.alloc();
+    let object = decode(alloc, &SUM)?;
+    let leaves = [
+        Seq::from_slice(alloc, &[1])?,
+        Seq::from_slice(alloc, &[3, 1])?,
+        Seq::from_slice(alloc, &[3])?,
+    ];
+    let tally = Tally {
+        cycles: 8,
+        rows: &[1, 4, 3],
+        leaves: &leaves,
+    };
+    let listed = tallied_listing_text(alloc, &object, tally)?;
+    let drawn = tallied_graph_text(alloc, &object, tally)?;
+    assert!(rt; listed.as_slice() == SUM_TALLIED.as_bytes());
+    assert!(rt; drawn.as_slice() == SUM_SHADED.as_bytes());
     Ok(())
 }

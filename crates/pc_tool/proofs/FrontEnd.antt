@@ -56,4 +56,5 @@ refused (check.OutsideLoop line) text program read is = Faulty read (refused-fir
 refused (check.TooManyScalars line) text program read is = Faulty read (refused-first (check.TooManyScalars line) (faults program) (resolved program) is) refl
 refused (check.TooManyArrays line) text program read is = Faulty read (refused-first (check.TooManyArrays line) (faults program) (resolved program) is) refl
 refused (check.TooManyElements line) text program read is = Faulty read (refused-first (check.TooManyElements line) (faults program) (resolved program) is) refl
+refused (check.TooManyValues line) text program read is = Faulty read (refused-first (check.TooManyValues line) (faults program) (resolved program) is) refl
 refused (check.TooDeep line) text program read is = Faulty read (refused-first (check.TooDeep line) (faults program) (resolved program) is) refl

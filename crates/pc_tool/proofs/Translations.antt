@@ -51,6 +51,7 @@ translates Passed limits extent text checked flow table choices object h compile
       loads = record { is_object = compiled.is_object; has_words = words };
       limited = compiled.limited;
       arrays = compiled.arrays ∙ ap (λ (program : ResolvedProgram). program.arrays) (sym h.is_resolved);
+      initial = compiled.initial ∙ ap (λ (program : ResolvedProgram). program.initial) (sym h.is_resolved);
       reached = reachable object.code.rows compiled.reached;
       compact = compiled.compact;
       same = subst (λ (program : ResolvedProgram). AgreeOnInputs (source_run program) (machine_run object.code)) (sym h.is_resolved) compiled.agree;

@@ -17,13 +17,14 @@ use Rattle.pc_driver.specs.Objects.{Loads}
 use Rattle.pc_driver.specs.Streams.{Streamed}
 use Rattle.pc_tool.specs.Source.{IsSource}
 
--- The text is the source of this program; the object loads under the limits, with the program's arrays, leaves lead to each of
--- its rows from row 0, and it is compact; for every input of words it does what the source means.
+-- The text is the source of this program; the object loads under the limits, with the program's arrays and their data, leaves lead to
+-- each of its rows from row 0, and it is compact; for every input of words it does what the source means.
 pub record Translates (limits : Limits) (text : List ℕ) (program : SourceProgram) (object : CodeWithNotes) : Type 0 where
   pub source : IsSource text program
   pub loads : Loads object
   pub limited : object.code.limits ≡ limits
   pub arrays : object.code.arrays ≡ (resolved program).arrays
+  pub initial : object.code.initial ≡ (resolved program).initial
   pub reached : (row : ℕ) → row < length object.code.rows → IsReachable object.code.rows row
   pub compact : Compact object.code
   pub same : Same program object.code

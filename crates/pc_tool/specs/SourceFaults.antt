@@ -35,6 +35,7 @@ told_of_check (check.OutsideLoop line) = Some (AtLine at_line.OutsideLoop line)
 told_of_check (check.TooManyScalars line) = Some (AtLine at_line.TooManyScalars line)
 told_of_check (check.TooManyArrays line) = Some (AtLine at_line.TooManyArrays line)
 told_of_check (check.TooManyElements line) = Some (AtLine at_line.TooManyElements line)
+told_of_check (check.TooManyValues line) = Some (AtLine at_line.TooManyValues line)
 told_of_check (check.TooDeep line) = Some (AtLine at_line.ExpressionTooDeep line)
 told_of_check check.Memory = None
 

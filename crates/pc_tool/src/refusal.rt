@@ -75,6 +75,7 @@ impl From<CheckError> for Refusal {
             CheckError::TooManyScalars { line } => at_line(LineFault::TooManyScalars, line),
             CheckError::TooManyArrays { line } => at_line(LineFault::TooManyArrays, line),
             CheckError::TooManyElements { line } => at_line(LineFault::TooManyElements, line),
+            CheckError::TooManyValues { line } => at_line(LineFault::TooManyValues, line),
             CheckError::TooDeep { line } => at_line(LineFault::ExpressionTooDeep, line),
             CheckError::Memory => Refusal::Memory,
         }

@@ -21,6 +21,13 @@ pub(crate) const EXCHANGE: &[u8] =
 pub(crate) const EXCHANGE_MOSTLY: &[u8] =
     b"int main(void){int i;int x=1;int y=2;int t;for(i=0;i<5;i++){if(i!=2){t=x;x=y;y=t;}print(x);}}";
 
+/// A static array with data, of which one is negative and two are 0 at the end.
+pub(crate) const SOME_DATA: &[u8] =
+    b"int main(void){static int a[4]={5,-6,0,0};print(a[0]+a[1]+a[3]);}";
+
+/// A static array whose values are 0, so that it has no data.
+pub(crate) const NO_DATA: &[u8] = b"int main(void){static int a[2]={0};print(a[1]);}";
+
 /// Two loops over arrays.
 pub(crate) const DOT_PRODUCT: &[u8] = b"int main(void){int a[100];int b[100];int i;int s=0;\n\
     for(i=0;i<100;i++){a[i]=i;b[i]=i+1;}\nfor(i=0;i<100;i++)s=s+a[i]*b[i];\nprint(s);return 0;}";

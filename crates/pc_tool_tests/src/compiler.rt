@@ -1,7 +1,8 @@
 //! The compiler: each status with its line, its options and its report.
 
 use crate::bench::{
-    Failing, NONE_FAILS, SEVEN_OBJECT, SILENCE, Wanted, answers, holds, shelf_with,
+    Failing, NO_DATA, NONE_FAILS, SEVEN_OBJECT, SILENCE, SOME_DATA, Wanted, answers, holds,
+    shelf_with,
 };
 use pc_outside::MemoryShelf;
 use pc_tool::Who;
@@ -33,7 +34,7 @@ const NO_COMMANDS: [&str; 8] = [
 ];
 
 /// Sources, and the line that tells why each is refused.
-const REFUSED: [(&[u8], &str); 26] = [
+const REFUSED: [(&[u8], &str); 28] = [
     (b"int main(void){$}", "bad byte at offset 15"),
     (b"int main(void){print(08);}", "bad literal at line 1"),
     (b"int main(void){}\n\n/* x", "open comment at line 3"),
@@ -52,6 +53,11 @@ const REFUSED: [(&[u8], &str); 26] = [
     ),
     (b"int main(void){int a[0];}", "bad size at line 1"),
     (b"int main(void){int a[65537];}", "bad size at line 1"),
+    (
+        b"int main(void){static int a[2]={1,\n2,3};}",
+        "too many values at line 2",
+    ),
+    (b"int main(void){int a[2]={1};}", "syntax at line 1"),
     (b"int main(void){\nbreak;}", "outside a loop at line 2"),
     (b"int main(void){\n{continue;}}", "outside a loop at line 2"),
     // At each kind of place the line is that of the token at which nothing goes on.
@@ -298,6 +304,25 @@ fn declares_the_limits_of_its_options(rt: HostRuntime) -> Result<(), Fail> {
     let alloc = rt.alloc();
     for (line, front) in LIMITS {
         assert!(rt; begins_with(alloc, line, front)?, "{line}");
+    }
+    Ok(())
+}
+
+/// Sources with a static array, and the first bytes of the object of each: its version, limits and arrays, and their data.
+const DATA: [(&[u8], &[u8]); 2] = [
+    (
+        SOME_DATA,
+        b"PTV2\x08\x03\x02\x01\0\x80\0\0\0\x04\0\0\0\x02\0\0\0\x05\xFF\xFF\xFF\xFA\0\0\0",
+    ),
+    (NO_DATA, b"PTV1\x08\x03\x02\x01\0\0\0\x02\0\0\0"),
+];
+
+#[test]
+fn objects_have_the_data_of_static_arrays(rt: HostRuntime) -> Result<(), Fail> {
+    let alloc = rt.alloc();
+    for (text, front) in DATA {
+        let mut shelf = shelf_with(alloc, "a.c", text, 0)?;
+        assert!(rt; object_begins(alloc, "a.c -o b.tv", front, &mut shelf)?);
     }
     Ok(())
 }

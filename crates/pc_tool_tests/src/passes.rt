@@ -6,6 +6,7 @@ use pc_flow::Flow;
 use pc_forward::Forward;
 use pc_outside::MemoryShelf;
 use pc_pass::{Pass, PassMemory};
+use pc_ranges::Ranges;
 use pc_scalar::{Copies, Dead, Fold, Values};
 use pc_tool::Who;
 use std::alloc::Global;
@@ -95,12 +96,13 @@ fn passes_fold_copy_and_clear(rt: HostRuntime) -> Result<(), Fail> {
     let alloc = rt.alloc();
     let mut passes: Vec<Box<dyn Pass>> = Vec::new(alloc);
     passes.push(Box::new(alloc, Fold::new(alloc))?)?;
+    passes.push(Box::new(alloc, Ranges::new(alloc))?)?;
     passes.push(Box::new(alloc, Copies::new(alloc))?)?;
     passes.push(Box::new(alloc, Values::new(alloc))?)?;
     passes.push(Box::new(alloc, Forward::new(alloc))?)?;
     passes.push(Box::new(alloc, Dead::new(alloc))?)?;
     let report =
-        b"nodes 5\nrows 1\npass fold 1\npass copies 3\npass values 0\npass forward 0\npass dead 3\n";
+        b"nodes 5\nrows 1\npass fold 1\npass ranges 3\npass copies 0\npass values 0\npass forward 0\npass dead 3\n";
     assert!(rt; reports(alloc, &mut passes, report)?);
     Ok(())
 }
@@ -115,6 +117,7 @@ fn forwards(
 ) -> Result<bool, Fail> {
     let mut passes: Vec<Box<dyn Pass>> = Vec::new(alloc);
     passes.push(Box::new(alloc, Fold::new(alloc))?)?;
+    passes.push(Box::new(alloc, Ranges::new(alloc))?)?;
     passes.push(Box::new(alloc, Copies::new(alloc))?)?;
     passes.push(Box::new(alloc, Values::new(alloc))?)?;
     passes.push(Box::new(alloc, Forward::new(alloc))?)?;
@@ -162,13 +165,13 @@ const MAY_MEET: &[u8] =
     b"int main(void){int a[4];int i=read();int j=read();a[i]=1;a[j]=2;print(a[i]);}";
 
 const STORED_REPORT: &[u8] =
-    b"nodes 15\nrows 4\npass fold 2\npass copies 2\npass values 0\npass forward 1\npass dead 2\n";
+    b"nodes 15\nrows 3\npass fold 2\npass ranges 2\npass copies 0\npass values 0\npass forward 1\npass dead 2\n";
 
 const LOADED_REPORT: &[u8] =
-    b"nodes 18\nrows 5\npass fold 0\npass copies 2\npass values 0\npass forward 1\npass dead 1\n";
+    b"nodes 18\nrows 5\npass fold 0\npass ranges 2\npass copies 2\npass values 0\npass forward 1\npass dead 2\n";
 
 const MAY_MEET_REPORT: &[u8] =
-    b"nodes 24\nrows 8\npass fold 0\npass copies 0\npass values 0\npass forward 0\npass dead 0\n";
+    b"nodes 24\nrows 8\npass fold 0\npass ranges 2\npass copies 0\npass values 0\npass forward 0\npass dead 1\n";
 
 #[test]
 fn loads_are_forwarded(rt: HostRuntime) -> Result<(), Fail> {

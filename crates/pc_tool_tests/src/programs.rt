@@ -1,7 +1,8 @@
 //! Sources that are compiled, and whose objects are run.
 
 use crate::bench::{
-    DOT_PRODUCT, EXCHANGE, EXCHANGE_MOSTLY, NONE_FAILS, SILENCE, Wanted, answers, shelf_with,
+    DOT_PRODUCT, EXCHANGE, EXCHANGE_MOSTLY, NO_DATA, NONE_FAILS, SILENCE, SOME_DATA, Wanted,
+    answers, shelf_with,
 };
 use pc_outside::MemoryShelf;
 use pc_tool::Who;
@@ -21,7 +22,7 @@ struct Program {
 
 /// What C says, and where C leaves it open, what the language says: words wrap, `/` truncates, `%` has the sign
 /// of the dividend, operands are evaluated from left to right.
-const PROGRAMS: [Program; 17] = [
+const PROGRAMS: [Program; 20] = [
     Program {
         source: b"int main(void){print(2147483647+1);print((-2147483647-1)/-1);print(-7/2);print(-7%2);}",
         input: b"",
@@ -49,6 +50,28 @@ const PROGRAMS: [Program; 17] = [
         code: 10,
         output: b"1\n",
         told: "pvm: trap: divide by zero at line 2\n",
+    },
+    // Static arrays begin with their values, once.
+    Program {
+        source: SOME_DATA,
+        input: b"",
+        code: 0,
+        output: b"-1\n",
+        told: "",
+    },
+    Program {
+        source: NO_DATA,
+        input: b"",
+        code: 0,
+        output: b"0\n",
+        told: "",
+    },
+    Program {
+        source: b"int main(void){int i;for(i=0;i<3;i++){static int a[1]={4};a[0]+=1;print(a[0]);}}",
+        input: b"",
+        code: 0,
+        output: b"5\n6\n7\n",
+        told: "",
     },
     // A dot product.
     Program {

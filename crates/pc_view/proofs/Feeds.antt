@@ -1,7 +1,7 @@
 -- No line of a listing has a line feed in it.
-use Rattle.std.proofs.Common.{◌≡◌, ℕ, zero, suc, ◌/◌, ◌%◌, ◌==◌, Bool, true, false, cond, List, [], ◌∷◌}
-use Rattle.std.proofs.Common.{◌++◌, length, map, refl, ◌∙◌, arith, codes}
-use Rattle.std.specs.Prelude.{ℤ, pos, negsuc, if◌then◌else◌, nat_eq}
+use Rattle.std.proofs.Common.{◌≡◌, ℕ, zero, suc, ◌+◌, ◌/◌, ◌%◌, ◌==◌, Bool, true, false, cond, List, [], ◌∷◌}
+use Rattle.std.proofs.Common.{◌++◌, length, map, refl, ◌∙◌, arith, codes, Option, Some, None}
+use Rattle.std.specs.Prelude.{ℤ, pos, negsuc, if◌then◌else◌, nat_eq, slice_index_or}
 use Rattle.std.proofs.lemmas.Bool.Decides.{nat_tests}
 use Rattle.std.specs.List.{AllByRecursion, count_by}
 use Rattle.std.specs.Fmt.{decimal, digits, digits_onto, digit_glyph, signed_decimal}
@@ -17,7 +17,7 @@ use Rattle.pc_word.specs.declared.item.TrapKind.{TrapKind}
 use Rattle.pc_word.specs.declared.item.TrapKind.TheVariants.{DivideByZero, OutOfBounds, EndOfInput}
 use Rattle.pc_word.specs.declared.item.Limits.{Limits}
 use Rattle.pc_word.specs.Items.{is_memory}
-use Rattle.pc_word.specs.Row.{Then, Either, At_leaf, items_of, tests_of}
+use Rattle.pc_word.specs.Row.{Then, Either, At_leaf, items_of, tests_of, leaves_of}
 use Rattle.pc_machine.specs.declared.tree.Leaf.{Leaf}
 use Rattle.pc_machine.specs.declared.tree.Leaf.TheVariants.{Goto, Stop, Trap}
 use Rattle.pc_machine.specs.MachineCode.{CodeRow, RowCode}
@@ -27,11 +27,12 @@ use Rattle.pc_report.specs.FaultLine.{trap_text}
 use Rattle.pc_report.specs.Report.{choice_text, note_words}
 use Rattle.pc_view.specs.Words.{operator_words, operand_words, item_words, test_words, leaf_words}
 use Rattle.pc_view.specs.Leading.{rows_leading_to}
+use Rattle.pc_view.specs.Tally.{RunTally, cycle_words, taken_words, times_taken}
 use Rattle.pc_view.specs.Tree.{tree_lines}
 use Rattle.pc_machine.specs.Registers.{few_registers}
 use Rattle.pc_view.specs.DataLines.{data_line, data_lines, all_data_lines}
 use Rattle.pc_view.specs.Listing.{separator, arrays_from, array_words, register_words, row_numbers_from, leading_words, limit_words, limits_line, count_words}
-use Rattle.pc_view.specs.Listing.{heading, row_lines, rows_lines, listing_lines, listing_text, lines_text}
+use Rattle.pc_view.specs.Listing.{heading, row_lines, rows_lines, listing_lines, lines_text}
 use Rattle.pc_view.specs.Laws.{line_count}
 use Rattle.pc_view.proofs.Lines.{length-listing_lines}
 
@@ -138,19 +139,30 @@ unfed_leaf (Trap kind line) =
 
 -- ---- lines
 
-unfed_tree : (first below : List ℕ) (row : CodeRow) → Unfed first → Unfed below → AllByRecursion Unfed (tree_lines first below row)
-unfed_tree first below (Then item rest) p q =
-    (unfed_both first (item_words operator_words item) p (unfed_item item), unfed_tree below below rest q q)
-unfed_tree first below (Either on on_yes on_no) p q = (
-  unfed_both first (test_words on) p (unfed_test on),
-  all_both Unfed (tree_lines (below ++ codes "yes ") (below ++ codes "|   ") on_yes)
-      (tree_lines (below ++ codes "no  ") (below ++ codes "    ") on_no)
-      (unfed_tree (below ++ codes "yes ") (below ++ codes "|   ") on_yes (unfed_both below (codes "yes ") q refl)
-      (unfed_both below (codes "|   ") q refl))
-      (unfed_tree (below ++ codes "no  ") (below ++ codes "    ") on_no (unfed_both below (codes "no  ") q refl)
-      (unfed_both below (codes "    ") q refl)),
+unfed_taken : (told : Option RunTally) (number leaf : ℕ) → Unfed (taken_words told number leaf)
+unfed_taken None number leaf = refl
+unfed_taken (Some tally) number leaf =
+    unfed_both (codes "; taken: ") (decimal (times_taken tally number leaf)) refl (unfed_decimal (times_taken tally number leaf))
+
+unfed_tree : (told : Option RunTally) (number leaf : ℕ) (first below : List ℕ) (row : CodeRow) → Unfed first → Unfed below
+    → AllByRecursion Unfed (tree_lines told number leaf first below row)
+unfed_tree told number leaf first below (Then item rest) p q =
+    (unfed_both first (item_words operator_words item) p (unfed_item item), unfed_tree told number leaf below below rest q q)
+unfed_tree told number leaf first below (Either on on_yes on_no) p q =
+    let later = leaf + length (leaves_of on_yes) in (
+      unfed_both first (test_words on) p (unfed_test on),
+      all_both Unfed (tree_lines told number leaf (below ++ codes "yes ") (below ++ codes "|   ") on_yes)
+          (tree_lines told number later (below ++ codes "no  ") (below ++ codes "    ") on_no)
+          (unfed_tree told number leaf (below ++ codes "yes ") (below ++ codes "|   ") on_yes (unfed_both below (codes "yes ") q refl)
+          (unfed_both below (codes "|   ") q refl))
+          (unfed_tree told number later (below ++ codes "no  ") (below ++ codes "    ") on_no (unfed_both below (codes "no  ") q refl)
+          (unfed_both below (codes "    ") q refl)),
+    )
+unfed_tree told number leaf first below (At_leaf to) p q = (
+  unfed_both first (leaf_words to ++ taken_words told number leaf) p
+      (unfed_both (leaf_words to) (taken_words told number leaf) (unfed_leaf to) (unfed_taken told number leaf)),
+  tt,
 )
-unfed_tree first below (At_leaf leaf) p q = (unfed_both first (leaf_words leaf) p (unfed_leaf leaf), tt)
 
 unfed_separator : (place : ℕ) → Unfed (separator place)
 unfed_separator zero = refl
@@ -234,16 +246,26 @@ unfed_count_words limits number row =
     (numbered (codes " tests, ") mem mem_end refl
     (numbered (codes " of ") limits.mem end refl refl))))))
 
-unfed_heading : (limits : Limits) (number : ℕ) (row : CodeRow) (leading : List ℕ) → Unfed (heading limits number row leading)
-unfed_heading limits number row leading =
-    unfed_both (count_words limits number row) (leading_words leading) (unfed_count_words limits number row) (unfed_leading leading)
+unfed_cycles : (told : Option RunTally) (number : ℕ) → Unfed (cycle_words told number)
+unfed_cycles None number = refl
+unfed_cycles (Some tally) number =
+    unfed_both (codes "; cycles: ") (decimal (slice_index_or tally.rows number 0)) refl (unfed_decimal (slice_index_or tally.rows number 0))
 
-unfed_rows_lines : (code : RowCode) (number : ℕ) (rows : List CodeRow) → AllByRecursion Unfed (rows_lines code number rows)
-unfed_rows_lines code number [] = tt
-unfed_rows_lines code number (row ∷ rest) =
-    all_both Unfed (row_lines code number row) (rows_lines code (suc number) rest)
-    (unfed_heading code.limits number row (rows_leading_to number 0 code.rows), unfed_tree (codes "    ") (codes "    ") row refl refl)
-    (unfed_rows_lines code (suc number) rest)
+unfed_heading : (told : Option RunTally) (limits : Limits) (number : ℕ) (row : CodeRow) (leading : List ℕ)
+    → Unfed (heading told limits number row leading)
+unfed_heading told limits number row leading =
+    unfed_both (count_words limits number row) (leading_words leading ++ cycle_words told number) (unfed_count_words limits number row)
+    (unfed_both (leading_words leading) (cycle_words told number) (unfed_leading leading) (unfed_cycles told number))
+
+unfed_rows_lines : (told : Option RunTally) (code : RowCode) (number : ℕ) (rows : List CodeRow)
+    → AllByRecursion Unfed (rows_lines told code number rows)
+unfed_rows_lines told code number [] = tt
+unfed_rows_lines told code number (row ∷ rest) =
+    all_both Unfed (row_lines told code number row) (rows_lines told code (suc number) rest) (
+      unfed_heading told code.limits number row (rows_leading_to number 0 code.rows),
+      unfed_tree told number 0 (codes "    ") (codes "    ") row refl refl,
+    )
+    (unfed_rows_lines told code (suc number) rest)
 
 -- ---- notes
 
@@ -290,13 +312,13 @@ feeds-lines_text (first ∷ rest) h =
     one : count_by is_line_feed (10 ∷ []) ≡ 1
     one = refl
 
-pub feeds-listing_text : (object : CodeWithNotes) → count_by is_line_feed (listing_text object) ≡ line_count object
-feeds-listing_text object =
-    feeds-lines_text (listing_lines object) (
+pub feeds-listing : (told : Option RunTally) (object : CodeWithNotes) → count_by is_line_feed (lines_text (listing_lines told object)) ≡ line_count object
+feeds-listing told object =
+    feeds-lines_text (listing_lines told object) (
       unfed_limits object.code,
-      all_both Unfed (all_data_lines 0 object.code.initial) (rows_lines object.code 0 object.code.rows ++ map note_words object.notes)
+      all_both Unfed (all_data_lines 0 object.code.initial) (rows_lines told object.code 0 object.code.rows ++ map note_words object.notes)
           (unfed_all_data 0 object.code.initial)
-          (all_both Unfed (rows_lines object.code 0 object.code.rows) (map note_words object.notes)
-          (unfed_rows_lines object.code 0 object.code.rows) (unfed_notes object.notes)),
+          (all_both Unfed (rows_lines told object.code 0 object.code.rows) (map note_words object.notes)
+          (unfed_rows_lines told object.code 0 object.code.rows) (unfed_notes object.notes)),
     )
-    ∙ length-listing_lines object
+    ∙ length-listing_lines told object

@@ -1,15 +1,16 @@
 -- An object as a graph in the language DOT: its rows are record nodes, and each leaf that leads to a row an edge.
-use Rattle.std.specs.Prelude.{ℕ, suc, ℤ, List, [], ◌∷◌, ◌++◌, length, codes, slice_get, unwrap_or}
+use Rattle.std.specs.Prelude.{ℕ, suc, ◌+◌, ℤ, List, [], ◌∷◌, ◌++◌, length, codes, Option, Some, None, slice_get, unwrap_or}
 use Rattle.std.specs.Fmt.{decimal}
 use Rattle.pc_word.specs.declared.item.OpCode.{OpCode}
 use Rattle.pc_word.specs.declared.item.OpCode.TheVariants.{Shl, Shr, Or, Less, LessEq}
-use Rattle.pc_word.specs.Row.{Then, Either, At_leaf}
+use Rattle.pc_word.specs.Row.{Then, Either, At_leaf, leaves_of}
 use Rattle.pc_machine.specs.declared.tree.Leaf.TheVariants.{Goto, Stop, Trap}
 use Rattle.pc_machine.specs.MachineCode.{CodeRow}
 use Rattle.pc_object.specs.declared.object.Note.{Note}
 use Rattle.pc_object.specs.ObjectText.{CodeWithNotes}
 use Rattle.pc_report.specs.Report.{note_words}
 use Rattle.pc_view.specs.Words.{operator_words, item_words, test_words, leaf_words}
+use Rattle.pc_view.specs.Tally.{RunTally, hundredths_words, row_share, cycle_words, times_taken}
 use Rattle.pc_view.specs.Listing.{lines_text}
 
 -- ---- rows
@@ -32,27 +33,47 @@ row_fields port (Either on on_yes on_no) =
     ++ (codes "}|{no|" ++ (row_fields (port ++ codes "n") on_no ++ codes "}}"))))
 row_fields port (At_leaf leaf) = codes "<" ++ (port ++ (codes "> " ++ leaf_words leaf))
 
--- the beginning of the node of a row: its number, and its label up to the fields
-unfoldable pub node_start : ℕ → List ℕ
-node_start number = codes "    " ++ (decimal number ++ (codes " [label=\"{row " ++ (decimal number ++ codes "|")))
+-- the shade of a row that ran, where it is told: red, and the deeper, the more of the cycles ran it
+abbrev pub shade_words : Option RunTally → ℕ → List ℕ
+shade_words None number = []
+shade_words (Some tally) number = codes "style=filled, fillcolor=\"0.000 " ++ (hundredths_words (row_share tally number) ++ codes " 1.000\", ")
+
+-- the beginning of the node of a row: its number and its shade
+unfoldable pub node_start : Option RunTally → ℕ → List ℕ
+node_start told number = codes "    " ++ (decimal number ++ (codes " [" ++ shade_words told number))
+
+-- its label up to the fields: its number, and how often it ran, where that is told
+unfoldable pub label_start : Option RunTally → ℕ → List ℕ
+label_start told number = codes "label=\"{row " ++ (decimal number ++ (cycle_words told number ++ codes "|"))
 
 -- the node of a row
-abbrev pub row_node : ℕ → CodeRow → List ℕ
-row_node number row = node_start number ++ (row_fields (codes "p") row ++ codes "}\"];")
+abbrev pub row_node : Option RunTally → ℕ → CodeRow → List ℕ
+row_node told number row = node_start told number ++ (label_start told number ++ (row_fields (codes "p") row ++ codes "}\"];"))
 
--- the edges of the row with this number: one for each leaf that leads to a row, from the leaf's port
-abbrev pub row_edges : ℕ → List ℕ → CodeRow → List (List ℕ)
-row_edges number port (Then item rest) = row_edges number port rest
-row_edges number port (Either on on_yes on_no) = row_edges number (port ++ codes "y") on_yes ++ row_edges number (port ++ codes "n") on_no
-row_edges number port (At_leaf (Goto row)) =
-    (codes "    " ++ (decimal number ++ (codes ":" ++ (port ++ (codes " -> " ++ (decimal row ++ codes ";")))))) ∷ []
-row_edges number port (At_leaf Stop) = []
-row_edges number port (At_leaf (Trap kind line)) = []
+-- the label of an edge: how often its leaf was taken, where that is told
+abbrev pub edge_label : Option RunTally → (number leaf : ℕ) → List ℕ
+edge_label None number leaf = []
+edge_label (Some tally) number leaf = codes " [label=\"" ++ (decimal (times_taken tally number leaf) ++ codes "\"]")
+
+-- the edges of the row with this number, or of a tree in it, of whose leaves the first has the number `leaf`: one for each leaf that
+-- leads to a row, from the leaf's port
+abbrev pub row_edges : Option RunTally → (number leaf : ℕ) → List ℕ → CodeRow → List (List ℕ)
+row_edges told number leaf port (Then item rest) = row_edges told number leaf port rest
+row_edges told number leaf port (Either on on_yes on_no) =
+    row_edges told number leaf (port ++ codes "y") on_yes ++ row_edges told number (leaf + length (leaves_of on_yes)) (port ++ codes "n") on_no
+row_edges told number leaf port (At_leaf (Goto row)) =
+    (codes "    " ++ (decimal number ++ (codes ":" ++ (port ++ (codes " -> " ++ (decimal row ++ (edge_label told number leaf ++ codes ";"))))))) ∷ []
+row_edges told number leaf port (At_leaf Stop) = []
+row_edges told number leaf port (At_leaf (Trap kind line)) = []
+
+-- a row: its node and its edges
+abbrev pub row_drawn : Option RunTally → ℕ → CodeRow → List (List ℕ)
+row_drawn told number row = row_node told number row ∷ row_edges told number 0 (codes "p") row
 
 -- rows, numbered from `number` on
-abbrev pub row_graph : ℕ → List CodeRow → List (List ℕ)
-row_graph number [] = []
-row_graph number (row ∷ rest) = row_node number row ∷ (row_edges number (codes "p") row ++ row_graph (suc number) rest)
+abbrev pub row_graph : Option RunTally → ℕ → List CodeRow → List (List ℕ)
+row_graph told number [] = []
+row_graph told number (row ∷ rest) = row_drawn told number row ++ row_graph told (suc number) rest
 
 -- ---- data
 
@@ -96,13 +117,18 @@ note_nodes number (note ∷ rest) = note_node number note ∷ note_nodes (suc nu
 
 -- ---- the whole
 
--- the lines of the graph of an object
-abbrev pub graph_lines : CodeWithNotes → List (List ℕ)
-graph_lines object =
+-- the lines of the graph of an object, with how often its rows ran and their leaves were taken, where that is told
+abbrev pub graph_lines : Option RunTally → CodeWithNotes → List (List ℕ)
+graph_lines told object =
     codes "digraph rows {"
     ∷ (codes "    node [shape=record];"
-    ∷ (data_nodes 0 object.code.initial ++ (row_graph 0 object.code.rows ++ (note_nodes 0 object.notes ++ codes "}" ∷ []))))
+    ∷ (data_nodes 0 object.code.initial ++ (row_graph told 0 object.code.rows ++ (note_nodes 0 object.notes ++ codes "}" ∷ []))))
 
 -- the text of the graph
 abbrev pub graph_text : CodeWithNotes → List ℕ
-graph_text object = lines_text (graph_lines object)
+graph_text object = lines_text (graph_lines None object)
+
+-- that of an object that was run: each row is shaded by its share of the cycles, and tells how often it ran, as each edge tells how often
+-- it was taken
+abbrev pub tallied_graph_text : RunTally → CodeWithNotes → List ℕ
+tallied_graph_text tally object = lines_text (graph_lines (Some tally) object)

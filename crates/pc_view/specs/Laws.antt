@@ -1,6 +1,6 @@
 -- Laws of the texts, of every object. Each is the contract of a function of laws.rt, which does nothing.
 use Rattle.std.specs.Prelude.{◌≡◌, ℕ, ◌+◌, ◌<◌, ◌↔◌, ℤ, Bool, true, false, List, [], ◌∷◌, ◌++◌, length}
-use Rattle.std.specs.Prelude.{Contains, Some, slice_get}
+use Rattle.std.specs.Prelude.{Contains, Option, Some, slice_get}
 use Rattle.std.specs.List.{AllByRecursion, count_by, sum_by}
 use Rattle.pc_word.specs.Line.{is_line_feed}
 use Rattle.pc_word.specs.Row.{Then, Either, At_leaf, items_of, tests_of, leaves_of}
@@ -10,18 +10,19 @@ use Rattle.pc_machine.specs.MachineCode.{CodeRow}
 use Rattle.pc_machine.specs.Reachable.{HasLeafTo}
 use Rattle.pc_object.specs.ObjectText.{CodeWithNotes}
 use Rattle.pc_view.specs.Words.{operator_words, item_words, test_words, leaf_words}
+use Rattle.pc_view.specs.Tally.{RunTally, taken_words}
 use Rattle.pc_view.specs.Tree.{tree_lines}
 use Rattle.pc_view.specs.Graph.{graph_lines}
 use Rattle.pc_view.specs.Leading.{rows_leading_to}
-use Rattle.pc_view.specs.Listing.{listing_lines, listing_text}
+use Rattle.pc_view.specs.Listing.{listing_lines, lines_text}
 
 -- ---- the lines of a tree
 
--- the words of each item, test and leaf of a row, in preorder
-abbrev pub words_of : CodeRow → List (List ℕ)
-words_of (Then item rest) = item_words operator_words item ∷ words_of rest
-words_of (Either on on_yes on_no) = test_words on ∷ (words_of on_yes ++ words_of on_no)
-words_of (At_leaf leaf) = leaf_words leaf ∷ []
+-- the words of each item, test and leaf of a row, in preorder, with how often each leaf was taken, where that is told
+abbrev pub words_of : Option RunTally → (number leaf : ℕ) → CodeRow → List (List ℕ)
+words_of told number leaf (Then item rest) = item_words operator_words item ∷ words_of told number leaf rest
+words_of told number leaf (Either on on_yes on_no) = test_words on ∷ (words_of told number leaf on_yes ++ words_of told number (leaf + length (leaves_of on_yes)) on_no)
+words_of told number leaf (At_leaf to) = (leaf_words to ++ taken_words told number leaf) ∷ []
 
 -- each line ends with its words
 abbrev pub EndWith : List (List ℕ) → List (List ℕ) → Type 0
@@ -31,7 +32,8 @@ EndWith _ _ = ⊥
 
 -- a tree has one line for each item, test and leaf, in preorder, which ends with its words
 abbrev pub TreesShowEachPart : Type 0
-TreesShowEachPart = (first below : List ℕ) (row : CodeRow) → EndWith (tree_lines first below row) (words_of row)
+TreesShowEachPart = (told : Option RunTally) (number leaf : ℕ) (first below : List ℕ) (row : CodeRow)
+    → EndWith (tree_lines told number leaf first below row) (words_of told number leaf row)
 
 -- ---- the lines of an object
 
@@ -47,11 +49,11 @@ line_count object =
 
 -- the listing of an object has so many lines
 abbrev pub ListingsHaveALineForEachPart : Type 0
-ListingsHaveALineForEachPart = (object : CodeWithNotes) → length (listing_lines object) ≡ line_count object
+ListingsHaveALineForEachPart = (told : Option RunTally) (object : CodeWithNotes) → length (listing_lines told object) ≡ line_count object
 
 -- and as many line feeds, so that no line has one in it
 abbrev pub ListingsHaveALineFeedForEachLine : Type 0
-ListingsHaveALineFeedForEachLine = (object : CodeWithNotes) → count_by is_line_feed (listing_text object) ≡ line_count object
+ListingsHaveALineFeedForEachLine = (told : Option RunTally) (object : CodeWithNotes) → count_by is_line_feed (lines_text (listing_lines told object)) ≡ line_count object
 
 -- ---- the lines of a graph
 
@@ -74,7 +76,7 @@ graph_line_count object =
 
 -- the graph of an object has so many lines
 abbrev pub GraphsHaveALineForEachPart : Type 0
-GraphsHaveALineForEachPart = (object : CodeWithNotes) → length (graph_lines object) ≡ graph_line_count object
+GraphsHaveALineForEachPart = (told : Option RunTally) (object : CodeWithNotes) → length (graph_lines told object) ≡ graph_line_count object
 
 -- ---- the rows that lead to a row
 

@@ -1,5 +1,6 @@
 pub mod models
 pub mod Words
+pub mod Tally
 pub mod Tree
 pub mod Leading
 pub mod DataLines

@@ -1,5 +1,5 @@
 -- An object as a text to be read: its limits, arrays and their data, its rows, and its notes.
-use Rattle.std.specs.Prelude.{ℕ, zero, suc, if◌then◌else◌, nat_eq, List, [], ◌∷◌, ◌++◌, length, map, codes}
+use Rattle.std.specs.Prelude.{ℕ, zero, suc, if◌then◌else◌, nat_eq, List, [], ◌∷◌, ◌++◌, length, map, codes, Option, Some, None}
 use Rattle.std.specs.List.{count_by, flat_map}
 use Rattle.std.specs.Fmt.{decimal}
 use Rattle.pc_word.specs.Line.{line}
@@ -12,6 +12,7 @@ use Rattle.pc_object.specs.ObjectText.{CodeWithNotes}
 use Rattle.pc_report.specs.Report.{note_words}
 use Rattle.pc_view.specs.DataLines.{all_data_lines}
 use Rattle.pc_view.specs.Leading.{rows_leading_to}
+use Rattle.pc_view.specs.Tally.{RunTally, cycle_words}
 use Rattle.pc_view.specs.Tree.{tree_lines}
 
 -- ---- lists in a line
@@ -65,25 +66,26 @@ count_words limits number row =
     ++ (decimal (length (tests_of row)) ++ (codes " of " ++ (decimal limits.tests ++ (codes " tests, "
     ++ (decimal (count_by is_memory (items_of row)) ++ (codes " of " ++ (decimal limits.mem ++ codes " loads and stores")))))))))))))
 
--- that, and which rows lead to it
-abbrev pub heading : Limits → ℕ → CodeRow → List ℕ → List ℕ
-heading limits number row leading = count_words limits number row ++ leading_words leading
+-- that, which rows lead to it, and how often it ran, where that is told
+abbrev pub heading : Option RunTally → Limits → ℕ → CodeRow → List ℕ → List ℕ
+heading told limits number row leading = count_words limits number row ++ (leading_words leading ++ cycle_words told number)
 
 -- a row of a code: its heading, and its tree after four blanks
-abbrev pub row_lines : RowCode → ℕ → CodeRow → List (List ℕ)
-row_lines code number row =
-    heading code.limits number row (rows_leading_to number 0 code.rows) ∷ tree_lines (codes "    ") (codes "    ") row
+abbrev pub row_lines : Option RunTally → RowCode → ℕ → CodeRow → List (List ℕ)
+row_lines told code number row =
+    heading told code.limits number row (rows_leading_to number 0 code.rows)
+    ∷ tree_lines told number 0 (codes "    ") (codes "    ") row
 
 -- rows of a code, numbered from `number` on
-abbrev pub rows_lines : RowCode → ℕ → List CodeRow → List (List ℕ)
-rows_lines code number [] = []
-rows_lines code number (row ∷ rest) = row_lines code number row ++ rows_lines code (suc number) rest
+abbrev pub rows_lines : Option RunTally → RowCode → ℕ → List CodeRow → List (List ℕ)
+rows_lines told code number [] = []
+rows_lines told code number (row ∷ rest) = row_lines told code number row ++ rows_lines told code (suc number) rest
 
--- the lines of an object
-abbrev pub listing_lines : CodeWithNotes → List (List ℕ)
-listing_lines object =
+-- the lines of an object, with how often its rows ran and their leaves were taken, where that is told
+abbrev pub listing_lines : Option RunTally → CodeWithNotes → List (List ℕ)
+listing_lines told object =
     limits_line object.code
-    ∷ (all_data_lines 0 object.code.initial ++ (rows_lines object.code 0 object.code.rows ++ map note_words object.notes))
+    ∷ (all_data_lines 0 object.code.initial ++ (rows_lines told object.code 0 object.code.rows ++ map note_words object.notes))
 
 -- ---- the text
 
@@ -93,4 +95,8 @@ lines_text lines = flat_map line lines
 
 -- the text of an object
 abbrev pub listing_text : CodeWithNotes → List ℕ
-listing_text object = lines_text (listing_lines object)
+listing_text object = lines_text (listing_lines None object)
+
+-- the text of an object that was run, with how often each row ran and each of its leaves was taken
+abbrev pub tallied_listing_text : RunTally → CodeWithNotes → List ℕ
+tallied_listing_text tally object = lines_text (listing_lines (Some tally) object)

@@ -4,11 +4,12 @@ use Rattle.std.proofs.Common.{length-append}
 use Rattle.std.proofs.lemmas.List.{length-map, length-replicate, length-drop}
 use Rattle.std.specs.Prelude.{ℤ, pos}
 use Rattle.pc_machine.specs.declared.code.Code.{Code}
-use Rattle.pc_machine.specs.Data.{first_cells}
+use Rattle.pc_word.specs.Data.{first_cells}
 use Rattle.pc_machine.specs.MachineCode.{row_of, code_of}
 use Rattle.pc_machine.specs.MachineRun.{Cycle, machine_start}
 use Rattle.pc_machine.specs.Registers.{most_registers}
-use Rattle.pc_machine.specs.WellFormed.{IsData, AreData, WellFormed}
+use Rattle.pc_machine.specs.WellFormed.{WellFormed}
+use Rattle.pc_word.specs.Data.{IsData, AreData}
 use Rattle.pc_vm.specs.Contents.{Contents, cells_of, state_of}
 use Rattle.pc_vm.specs.models.Made.{lengths_of, new_array, new_arrays, new_contents}
 use Rattle.pc_vm.specs.models.Planned.{Planned, nothing_planned}

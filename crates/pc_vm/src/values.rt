@@ -1,7 +1,8 @@
 //! What a machine holds: its registers, its arrays, and the input that is left.
 ghost use Rattle.std.specs.Prelude.{◌≡◌, ◌<◌, ◌≤◌, ◌++◌, pos, length, replicate, drop, slice_get, slice_set, slice_index, slice_index_or, [], IfOk};
 ghost use Rattle.pc_word.specs.Items.{operand_value, place_in, element_at, next_input, some_left, value_of};
-ghost use Rattle.pc_machine.specs.WellFormed.{IsOperand, IsItem, AreData};
+ghost use Rattle.pc_machine.specs.WellFormed.{IsOperand, IsItem};
+ghost use Rattle.pc_word.specs.Data.{AreData};
 ghost use Rattle.pc_vm.specs.Contents.{names_of, cells_of, state_of};
 ghost use Rattle.pc_vm.specs.models.Made.{lengths_of, new_array, new_arrays, new_contents};
 ghost use Rattle.pc_vm.specs.models.Planned.{with_element, IsInside};

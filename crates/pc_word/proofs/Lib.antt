@@ -1,3 +1,4 @@
+pub mod Data
 pub mod Evaluated
 pub mod Items
 pub mod Lists

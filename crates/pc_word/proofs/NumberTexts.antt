@@ -1,5 +1,5 @@
 -- What is read of a text of numbers.
-use Rattle.std.proofs.Common.{◌≡◌, ℕ, suc, ◌+◌, ◌-◌, ◌^◌, ◌<◌, ◌≤◌, Bool, true, false, ◌&&◌, eqb, List, [], ◌∷◌, ◌++◌, length, take, drop, get_or}
+use Rattle.std.proofs.Common.{◌≡◌, ℕ, suc, ◌+◌, ◌-◌, ◌^◌, ◌<◌, ◌≤◌, Bool, true, false, eqb, List, [], ◌∷◌, ◌++◌, length, take, drop, get_or}
 use Rattle.std.proofs.Common.{refl, sym, ◌∙◌, ap, arith, ℤ, pos, w32, FitsSigned, add-one, add-zero, append_assoc, append-nil}
 use Rattle.std.specs.Prelude.{negsuc, Option, Some, None, Result, Ok, Err, nat_lt}
 use Rattle.std.specs.Prelude.{int_le, unsigned_abs}
@@ -17,7 +17,7 @@ use Rattle.std.specs.Result.{result_ok}
 use Rattle.std.proofs.lemmas.Str.{IsUtf8-from_ascii}
 use Rattle.std.proofs.lemmas.Fmt.{IsAscii-from_digits}
 use Rattle.std.proofs.lemmas.Str.Parse.{numerals_by_value, tells_all_ascii_digits}
-use Rattle.pc_word.proofs.Truth.{and_true, most_of, less_of}
+use Rattle.pc_word.proofs.Truth.{and_true, less_of}
 use Rattle.pc_word.specs.NumberText.{is_separator, first_word, is_numeral, is_word, number_of, with_number, numbers_from, numbers_in, line_of, text_of}
 
 -- numbers before what is read

@@ -1,5 +1,5 @@
 -- Laws of runs: a list that is begun, a run that grows, two runs that agree, and when two machines' runs agree.
-use Rattle.std.proofs.Common.{zero-add, add-zero, ◌≡◌, ℕ, zero, suc, ◌+◌, ◌-◌, ◌<◌, ◌≤◌, List, [], ◌++◌, Option, Some, None, refl, sym, ◌∙◌, ap, subst, ◌⊎◌, inl, inr, append_assoc, append-nil, arith}
+use Rattle.std.proofs.Common.{zero-add, add-zero, ◌≡◌, ℕ, zero, suc, ◌+◌, ◌-◌, ◌<◌, ◌≤◌, List, [], ◌++◌, Option, Some, None, refl, sym, ◌∙◌, ap, subst, inl, inr, append_assoc, append-nil, arith}
 use Rattle.std.specs.Prelude.{ℤ}
 use Rattle.pc_word.specs.declared.item.End.{End}
 use Rattle.pc_word.specs.Run.{Seen, Run, Begins, Grows, Answers, Follows, Agree, Step, Goes, Stops, after_printing, seen_of, run_from, Reached, At}

@@ -1,10 +1,6 @@
 -- The limits of the machine, of its objects and their input.
 use Rattle.std.specs.Prelude.{ℕ}
 
--- registers, numbered from 0
-abbrev pub registers : ℕ
-registers = 128
-
 -- items, tests, and loads and stores that a row's limits may allow
 abbrev pub most_ops : ℕ
 most_ops = 32

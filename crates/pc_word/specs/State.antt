@@ -1,5 +1,6 @@
 -- The state that items work on, whatever runs them: a flow graph, a region, a window or a machine.
 use Rattle.std.specs.Prelude.{ℕ, ℤ, pos, List, if◌then◌else◌, ◌&&◌, nat_eq}
+use Rattle.pc_word.specs.Data.{first_cells}
 
 -- the value of each name, the elements of each array by number and index, and the input that is left
 pub record State : Type 0 where
@@ -7,9 +8,9 @@ pub record State : Type 0 where
   pub cells : ℕ → ℕ → ℤ
   pub input : List ℤ
 
--- all names and elements are 0, and the whole input is left
-abbrev pub start_state : List ℤ → State
-start_state input = record { names = λ name. pos 0; cells = λ array place. pos 0; input = input }
+-- all names are 0, each array begins with its data and goes on with 0, and the whole input is left
+abbrev pub start_state : List (List ℤ) → List ℤ → State
+start_state initial input = record { names = λ name. pos 0; cells = first_cells initial; input = input }
 
 -- the state with another value in one name
 abbrev pub set_name : ℕ → ℤ → State → State

@@ -1,6 +1,6 @@
 -- The operators of the language on words: whole numbers from -2147483648 to 2147483647, which wrap modulo 2^32.
 use Rattle.std.specs.Prelude.{zero, suc, ℤ, pos, negsuc, ◌+ℤ◌, ◌-ℤ◌, ◌*ℤ◌, ◌%◌, ◌^◌, Bool, true, false, not, int_lt, int_le, int_div, int_rem, FitsSigned}
-use Rattle.std.specs.Int.{w32, cast_unsigned, int_wrap, int_shl, int_shr, int_bit_and, int_bit_or, int_bit_xor}
+use Rattle.std.specs.Int.{w32, cast_unsigned, int_wrap, int_shr, int_bit_and, int_bit_or, int_bit_xor}
 use Rattle.std.specs.Ordering.{int_eq}
 use Rattle.pc_word.specs.declared.item.OpCode.{OpCode}
 use Rattle.pc_word.specs.declared.item.OpCode.TheVariants.{Add, Sub, Mul, Div, Rem, Shl, Shr, And, Or, Xor, Less, LessEq, Equal, Unequal, Below}

@@ -18,9 +18,6 @@ pub const MOST_TEMPORARIES: u32 = 32;
 /// Nodes of a flow graph.
 pub const MOST_NODES: u32 = 16_384;
 
-/// Registers of the machine.
-pub const REGISTERS: usize = 128;
-
 /// Items that a row's limits may allow.
 pub const MOST_OPS: u8 = 32;
 

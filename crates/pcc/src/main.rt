@@ -4,6 +4,7 @@
 ghost use Rattle.std.specs.Prelude.{codes};
 ghost use Rattle.pc_forward.specs.Forwarded.{Forwards};
 ghost use Rattle.pc_passes.specs.Passes.{IsFresh, AreThePasses};
+ghost use Rattle.pc_ranges.specs.Ranged.{LeavesRanged};
 ghost use Rattle.pc_scalar.specs.Cleared.{WritesAreLive};
 ghost use Rattle.pc_scalar.specs.Copied.{NamesNoCopy};
 ghost use Rattle.pc_scalar.specs.Folded.{IsFolded};
@@ -12,6 +13,7 @@ ghost use Rattle.pc_scalar.specs.Valued.{ComputesNoneAgain};
 
 use pc_forward::Forward;
 use pc_pass::Pass;
+use pc_ranges::Ranges;
 use pc_scalar::{Copies, Dead, Fold, Values};
 use pc_tool::{Who, run, run_out};
 use std::alloc::AllocError;
@@ -28,23 +30,26 @@ fn main(rt: HostRuntime) -> ExitCode {
 fn compile(rt: &HostRuntime) -> Result<ExitCode, AllocError> {
     let alloc = rt.alloc();
     let fold = Box::new(alloc, Fold::new(alloc))?;
+    let ranges = Box::new(alloc, Ranges::new(alloc))?;
     let copies = Box::new(alloc, Copies::new(alloc))?;
     let values = Box::new(alloc, Values::new(alloc))?;
     let forward = Box::new(alloc, Forward::new(alloc))?;
     let dead = Box::new(alloc, Dead::new(alloc))?;
-    compile_in_order(rt, fold, copies, values, forward, dead)
+    compile_in_order(rt, fold, ranges, copies, values, forward, dead)
 }
 
 /// Compiles with these passes, in this order.
 fn compile_in_order(
     rt: &HostRuntime,
     fold: Box<dyn Pass>,
+    ranges: Box<dyn Pass>,
     copies: Box<dyn Pass>,
     values: Box<dyn Pass>,
     forward: Box<dyn Pass>,
     dead: Box<dyn Pass>,
 ) -> Result<ExitCode, AllocError>
     requires fold { IsFresh (λ b. label b) (λ b. changed b) (λ b. does b) fold (codes "fold") (Leaves IsFolded) }
+    requires ranges { IsFresh (λ b. label b) (λ b. changed b) (λ b. does b) ranges (codes "ranges") LeavesRanged }
     requires copies { IsFresh (λ b. label b) (λ b. changed b) (λ b. does b) copies (codes "copies") (Leaves NamesNoCopy) }
     requires values { IsFresh (λ b. label b) (λ b. changed b) (λ b. does b) values (codes "values") (Leaves ComputesNoneAgain) }
     requires forward { IsFresh (λ b. label b) (λ b. changed b) (λ b. does b) forward (codes "forward") Forwards }
@@ -52,6 +57,7 @@ fn compile_in_order(
 {
     let mut passes = Vec::new(rt.alloc());
     passes.push(fold)?;
+    passes.push(ranges)?;
     passes.push(copies)?;
     passes.push(values)?;
     passes.push(forward)?;

@@ -18,7 +18,7 @@ is_binary _ = false
 -- whether a statement declares or assigns a name
 abbrev pub is_written : SourceStatement → Bool
 is_written (ScalarDeclaration symbol line initial) = true
-is_written (ArrayDeclaration symbol line at length) = true
+is_written (ArrayDeclaration symbol line at length values) = true
 is_written (Assignment symbol line index bracket op at value) = true
 is_written _ = false
 

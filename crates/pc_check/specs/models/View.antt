@@ -26,6 +26,7 @@ names_of scopes = record {
   outer = scopes_of scopes.outer.items;
   scalars = scopes.scalars;
   lengths = scopes.lengths;
+  initial = scopes.initial;
 }
 
 -- the names among these scopes

@@ -3,9 +3,9 @@ use Rattle.std.specs.Prelude.{◌≡◌, ◌⊎◌, ◌<◌, ℕ, List, [], ◌�
 use Rattle.std.specs.List.{AllByRecursion}
 use Rattle.pc_word.specs.declared.item.Operand.{Operand}
 use Rattle.pc_word.specs.declared.item.Operand.TheVariants.{Name, Lit}
-use Rattle.pc_word.specs.MachineLimits.{registers}
+use Rattle.pc_machine.specs.Registers.{most_registers}
 use Rattle.pc_copies.specs.declared.moves.Move.{Move}
-use Rattle.pc_copies.specs.Moves.{IsNamed, IsMoveSource, AreCopies}
+use Rattle.pc_copies.specs.Moves.{IsNamed, IsMoveSource, one_names, AreCopies}
 use Rattle.pc_copies.specs.models.Sources.{source_in, IsRead, IsWritten, Do}
 use Rattle.pc_copies.specs.models.Packing.{WritesOnce, RowsFit}
 use Rattle.pc_copies.specs.models.Following.{source_at, sources_left, AreSources}
@@ -18,11 +18,11 @@ pub record IsMove (scratch : ℕ) (move : Move) : Type 0 where
 
 -- one that names registers of the machine
 abbrev pub IsBelow : Operand → Type 0
-IsBelow (Name register) = register < registers
+IsBelow (Name register) = register < most_registers
 IsBelow (Lit value) = Unit {0}
 
 pub record IsInside (move : Move) : Type 0 where
-  pub dest : move.dest < registers
+  pub dest : move.dest < most_registers
   pub from : IsBelow move.from
 
 -- such moves, to different registers
@@ -44,14 +44,14 @@ pub record Arranging (ops scratch : ℕ) (moves : List Move) (at : ℕ) (table :
   pub stage : (x : ℕ) → ((source_at table x ≡ source_in moves x) × (placed x ≡ None)) ⊎ ((source_at table x ≡ None) × (placed x ≡ source_in moves x))
   pub reads : (register : ℕ) → IsRead placed register → source_at table register ≡ None
   pub row_reads : (register : ℕ) → IsRead (source_in first) register → (register ≡ scratch) ⊎ (source_at table register ≡ None)
-  pub fit : RowsFit ops scratch rows first
+  pub fit : RowsFit (one_names moves) ops scratch rows first
   pub row_writes : (register : ℕ) → IsWritten (source_in first) register → (register ≡ scratch) ⊎ (source_at table register ≡ None)
   pub through : (i : ℕ) (move : Move) → i < at → slice_get moves i ≡ Some move → source_at table move.dest ≡ None
 
 -- rows that do moves at once
 pub record IsPacked (ops scratch : ℕ) (moves : List Move) (rows : List (List Move)) (first : List Move) : Type 0 where
   pub does : Do scratch rows first (source_in moves)
-  pub fit : RowsFit ops scratch rows first
+  pub fit : RowsFit (one_names moves) ops scratch rows first
   pub room : length first < ops
   pub copies : AreCopies moves (copies_with rows first)
 

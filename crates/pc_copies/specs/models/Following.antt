@@ -3,7 +3,7 @@ use Rattle.std.specs.Prelude.{◌≡◌, ◌⊎◌, ◌<◌, ℕ, Bool, true, fa
 use Rattle.std.specs.List.{count_by}
 use Rattle.pc_word.specs.declared.item.Operand.{Operand}
 use Rattle.pc_word.specs.declared.item.Operand.TheVariants.{Name}
-use Rattle.pc_word.specs.MachineLimits.{registers}
+use Rattle.pc_machine.specs.Registers.{most_registers}
 use Rattle.pc_copies.specs.declared.moves.Move.{Move}
 use Rattle.pc_copies.specs.Moves.{Leads_to}
 use Rattle.pc_copies.specs.models.Sources.{source_in}
@@ -15,8 +15,8 @@ source_at table register = slice_index_or table register None
 
 -- a table of the sources of all registers
 pub record AreSources (table : List (Option Operand)) : Type 0 where
-  pub as_many : length table ≡ registers
-  pub named : (at register : ℕ) → source_at table at ≡ Some (Name register) → register < registers
+  pub as_many : length table ≡ most_registers
+  pub named : (at register : ℕ) → source_at table at ≡ Some (Name register) → register < most_registers
 
 -- whether there is a source
 abbrev pub is_there : Option Operand → Bool
@@ -47,7 +47,7 @@ pub record Followed (before now : List (Option Operand)) (begin : ℕ) (path : L
 -- so far, up to a register
 pub record Following (before now : List (Option Operand)) (begin : ℕ) (path : List Move) (at : ℕ) : Type 0 where
   pub table : AreSources now
-  pub below : at < registers
+  pub below : at < most_registers
   pub taken : AreTaken path before now
   pub once : WritesOnce path
   pub leads : Leads_to path (Name at)

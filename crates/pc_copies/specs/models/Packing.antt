@@ -1,5 +1,5 @@
 -- Copies that are packed into rows, those that run last first.
-use Rattle.std.specs.Prelude.{◌≡◌, ◌≢◌, ◌⊎◌, ◌+◌, ◌<◌, ℕ, List, [], ◌∷◌, ◌++◌, length, Option, None}
+use Rattle.std.specs.Prelude.{◌≡◌, ◌≢◌, ◌⊎◌, ◌+◌, ◌<◌, ℕ, Bool, true, List, [], ◌∷◌, ◌++◌, length, Option, Some, None}
 use Rattle.std.specs.List.{AllByRecursion}
 use Rattle.pc_word.specs.declared.item.Operand.{Operand}
 use Rattle.pc_word.specs.declared.item.Operand.TheVariants.{Name}
@@ -20,22 +20,28 @@ WritesOnce [] = Unit {0}
 WritesOnce (move ∷ moves) = (source_in moves move.dest ≡ None) × WritesOnce moves
 
 -- rows of so many copies each, and a first row with fewer: none writes a register twice
-pub record IsFull (ops scratch : ℕ) (row : List Move) : Type 0 where
+pub record IsFull (named : ℕ → Bool) (ops scratch : ℕ) (row : List Move) : Type 0 where
   pub many : length row ≡ ops
-  pub copies : AllByRecursion (IsCopy scratch) row
+  pub copies : AllByRecursion (IsCopy named scratch) row
   pub once : WritesOnce row
 
-pub record RowsFit (ops scratch : ℕ) (rows : List (List Move)) (first : List Move) : Type 0 where
-  pub full : AllByRecursion (IsFull ops scratch) rows
-  pub copies : AllByRecursion (IsCopy scratch) first
+pub record RowsFit (named : ℕ → Bool) (ops scratch : ℕ) (rows : List (List Move)) (first : List Move) : Type 0 where
+  pub full : AllByRecursion (IsFull named ops scratch) rows
+  pub copies : AllByRecursion (IsCopy named scratch) first
   pub once : WritesOnce first
+
+-- registers that take their values from these sources are named, and so are those that they take them from
+pub record AreNamed (named : ℕ → Bool) (sources : ℕ → Option Operand) : Type 0 where
+  pub dests : (register : ℕ) (from : Operand) → sources register ≡ Some from → named register ≡ true
+  pub reads : (register read : ℕ) → sources register ≡ Some (Name read) → named read ≡ true
 
 -- what rows do with these sources more
 pub record Adds (ops scratch : ℕ) (sources : ℕ → Option Operand) (rows : List (List Move)) (first : List Move) (later : List (List Move)) (now : List Move) : Type 0 where
   pub does : (placed : ℕ → Option Operand) → Do scratch rows first placed → Unread placed sources → Unread (source_in first) sources
       → Do scratch later now (over placed sources)
   pub reads : (register : ℕ) → IsRead (source_in now) register → IsRead (source_in first) register ⊎ IsRead sources register
-  pub fits : Apart (source_in first) sources → RowsFit ops scratch rows first → RowsFit ops scratch later now
+  pub fits : (named : ℕ → Bool) → AreNamed named sources → Apart (source_in first) sources → RowsFit named ops scratch rows first
+      → RowsFit named ops scratch later now
   pub writes : (register : ℕ) → IsWritten (source_in now) register → IsWritten (source_in first) register ⊎ IsWritten sources register
 
 -- the same where scratch may be needed for it
@@ -43,14 +49,14 @@ pub record AddsRing (ops scratch : ℕ) (sources : ℕ → Option Operand) (rows
   pub does : (placed : ℕ → Option Operand) → (IsRead placed scratch → ⊥) → Do scratch rows first placed → Unread placed sources → Unread (source_in first) sources
       → Do scratch later now (over placed sources)
   pub reads : (register : ℕ) → IsRead (source_in now) register → (register ≡ scratch) ⊎ IsRead (source_in first) register ⊎ IsRead sources register
-  pub fits : Apart (source_in first) sources → RowsFit ops scratch rows first → RowsFit ops scratch later now
+  pub fits : (named : ℕ → Bool) → AreNamed named sources → Apart (source_in first) sources → RowsFit named ops scratch rows first
+      → RowsFit named ops scratch later now
   pub writes : (register : ℕ) → IsWritten (source_in now) register → (register ≡ scratch) ⊎ IsWritten (source_in first) register ⊎ IsWritten sources register
 
 -- ---- moves that follow one another
 
 -- a copy leaves a register, as scratch, alone
 pub record Avoids (register : ℕ) (move : Move) : Type 0 where
-  pub copy : IsCopy register move
   pub writes : move.dest ≢ register
   pub reads : move.from ≢ Name register
 

@@ -7,6 +7,7 @@ use Rattle.pc_table.specs.StoredTable.{table_of}
 use Rattle.pc_table.specs.declared.table.Region.{Region}
 use Rattle.pc_table.specs.TableKeeps.{units, TableKeeps}
 use Rattle.pc_automaton.specs.Automaton.{AutomatonState, states_in}
+use Rattle.pc_assign.specs.Assigned.{Registers}
 use Rattle.pc_assign.specs.Stored.{registers_in}
 use Rattle.pc_machine.specs.declared.tree.Leaf.{Leaf}
 use Rattle.pc_machine.specs.declared.tree.Leaf.TheVariants.{Goto, Stop, Trap}
@@ -15,7 +16,7 @@ use Rattle.pc_emit.specs.Registers.{register_of}
 use Rattle.pc_emit.specs.declared.form.RegionForm.{RegionForm as StoredForm}
 use Rattle.pc_emit.specs.declared.form.RegionForm.TheVariants as stored
 use Rattle.pc_emit.specs.Emitted.{RegionForm, Plain, ByAutomaton, Emission, root_leaf}
-use Rattle.pc_emit.specs.Emitting.{form_in, region_forms, emission_of, AreForms}
+use Rattle.pc_emit.specs.Emitting.{form_in, region_forms, emission_of, AreEnough, AreForms}
 use Rattle.pc_emit.specs.declared.plan.Plan.{Plan}
 use Rattle.pc_emit.specs.declared.packed.PackedSite.{PackedSite}
 
@@ -83,6 +84,10 @@ pub record IsPlan (plan : Plan) : Type 0 where
   pub forms : AreForms (table_in plan) plan.limits (forms_at plan)
   pub entries : AreEntries (table_in plan) (forms_at plan) plan.entries.now
 
+-- a register is one of those that are enough for the forms
+abbrev pub IsLeft : Plan → ℕ → Type 0
+IsLeft plan scratch = (count : ℕ) → AreEnough count (forms_at plan) → scratch < count
+
 -- the leaf that leads to a region that begins at this row and has this form, if it has one
 abbrev pub leaf_in : (row : ℕ) → TableTree → Option StoredForm → Leaf
 leaf_in row tree None = Stop
@@ -95,12 +100,12 @@ leaf_in row tree (Some (stored.ByAutomaton automaton registers)) = Goto row
 abbrev pub states_at : PackedSite → List AutomatonState
 states_at site = states_in site.automaton.now
 
-abbrev pub registers_at : PackedSite → ℕ → ℕ → Option ℕ
+abbrev pub registers_at : PackedSite → Registers
 registers_at site = registers_in site.registers.now
 
 -- the register of each name of a state
 abbrev pub names_at : PackedSite → ℕ → ℕ → ℕ
-names_at site number = register_of (registers_at site number)
+names_at site number = register_of ((registers_at site).of number)
 
 -- the region begins at its entry, has this form, and ends before the end
 pub record IsSite (plan : Plan) (site : PackedSite) : Type 0 where

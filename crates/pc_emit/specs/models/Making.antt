@@ -4,11 +4,11 @@ use Rattle.pc_table.specs.Table.{TableTree}
 use Rattle.pc_machine.specs.declared.tree.Leaf.{Leaf}
 use Rattle.pc_machine.specs.declared.tree.Leaf.TheVariants.{Goto}
 use Rattle.pc_machine.specs.MachineCode.{CodeRow}
-use Rattle.pc_machine.specs.Registers.{few_registers}
 use Rattle.pc_machine.specs.WellFormed.{IsLeaf, IsRow}
 use Rattle.pc_machine.specs.Reachable.{IsReachable}
 use Rattle.pc_object.specs.ObjectText.{leaf_text}
 use Rattle.pc_emit.specs.Bytes.{tree_bytes, states_bytes}
+use Rattle.pc_emit.specs.Emitting.{AreEnough}
 use Rattle.pc_emit.specs.Emitted.{RegionForm, Plain, ByAutomaton, TreeStands, RegionStands}
 use Rattle.pc_emit.specs.declared.output.Output.{Output}
 use Rattle.pc_emit.specs.declared.plan.Plan.{Plan}
@@ -33,7 +33,8 @@ RowsReached from to final = (number : ℕ) → from ≤ number → number < to �
 
 -- a row keeps the limits, and it is reached where this is
 pub record IsOnTheWay (plan : Plan) (Reached : List CodeRow → Type 0) (final : List CodeRow) (number : ℕ) : Type 0 where
-  pub fits : rows_end plan ≤ length final → (row : CodeRow) → slice_get final number ≡ Some row → IsRow plan.limits few_registers (length plan.table.now.arrays) (length final) row
+  pub fits : (count : ℕ) → AreEnough count (forms_at plan) → rows_end plan ≤ length final → (row : CodeRow) → slice_get final number ≡ Some row
+      → IsRow plan.limits count (length plan.table.now.arrays) (length final) row
   pub reached : Reached final → IsReachable final number
 
 -- ---- regions

@@ -13,7 +13,7 @@ use Rattle.pc_emit.specs.declared.output.Output.{Output}
 
 -- the registers of a state's names
 abbrev pub of_state : StateNames → ℕ → ℕ
-of_state names = register_of (registers_in names.registers.now names.state)
+of_state names = register_of ((registers_in names.registers.now).of names.state)
 
 -- how many bytes rows have
 abbrev pub bytes_of : List CodeRow → ℕ

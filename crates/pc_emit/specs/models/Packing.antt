@@ -1,11 +1,12 @@
 -- Rows of packed regions in the making.
 use Rattle.std.specs.Prelude.{◌≡◌, ℕ, ◌<◌, List, Option, Some, length, slice_get}
+use Rattle.pc_word.specs.declared.item.Operand.TheVariants.{Name}
 use Rattle.pc_word.specs.Row.{Row, Then, Either, At_leaf}
 use Rattle.pc_automaton.specs.declared.automaton.AutomatonLeaf.{AutomatonLeaf}
 use Rattle.pc_automaton.specs.declared.automaton.AutomatonLeaf.TheVariants.{To, Out, Stop, Trap}
 use Rattle.pc_automaton.specs.Automaton.{AutomatonState}
 use Rattle.pc_automaton.specs.AutomatonRun.{state_parameters}
-use Rattle.pc_assign.specs.Pressure.{allowed}
+use Rattle.pc_assign.specs.Assigned.{Registers}
 use Rattle.pc_copies.specs.declared.moves.Move.{Move}
 use Rattle.pc_copies.specs.Moves.{AreMoves}
 use Rattle.pc_machine.specs.declared.tree.Leaf.{Leaf}
@@ -19,12 +20,22 @@ use Rattle.pc_emit.specs.declared.packed.PackedSite.{PackedSite}
 use Rattle.pc_emit.specs.models.Output.{Stays}
 use Rattle.pc_emit.specs.models.Layout.{emission_in, states_at, registers_at}
 
+-- a move that names registers below scratch alone
+pub record IsBelow (scratch : ℕ) (move : Move) : Type 0 where
+  pub dest : move.dest < scratch
+  pub from : (register : ℕ) → move.from ≡ Name register → register < scratch
+
+-- such moves, which may be done at once through scratch
+pub record CanMove (scratch : ℕ) (moves : List Move) : Type 0 where
+  pub are : AreMoves scratch moves
+  pub below : (at : ℕ) (move : Move) → slice_get moves at ≡ Some move → IsBelow scratch move
+
 -- what a leaf needs: its moves may be done at once, and what it leads to is there
-abbrev pub CanMakeLeaf : Emission → List AutomatonState → (ℕ → ℕ → Option ℕ) → (ℕ → ℕ) → AutomatonLeaf → Type 0
+abbrev pub CanMakeLeaf : Emission → List AutomatonState → Registers → (ℕ → ℕ) → AutomatonLeaf → Type 0
 CanMakeLeaf e states registers of (To number arguments) =
     (number < length states) × (length arguments ≡ length (state_parameters (slice_get states number)))
-    × AreMoves allowed (argument_moves of (register_of (registers number)) (state_parameters (slice_get states number)) arguments)
-CanMakeLeaf e states registers of (Out region homes) = HasForm e.table e.forms region × AreMoves allowed (home_moves of homes)
+    × CanMove registers.scratch (argument_moves of (register_of (registers.of number)) (state_parameters (slice_get states number)) arguments)
+CanMakeLeaf e states registers of (Out region homes) = HasForm e.table e.forms region × CanMove registers.scratch (home_moves of homes)
 CanMakeLeaf e states registers of Stop = Unit {0}
 CanMakeLeaf e states registers of (Trap kind line) = Unit {0}
 
@@ -39,14 +50,14 @@ abbrev pub CanMakeRow : Plan → PackedSite → (of : ℕ → ℕ) → Row Autom
 CanMakeRow plan site of row = CanMakeLeaves (CanMakeLeaf (emission_in plan) (states_at site) (registers_at site) of) row
 
 -- moves lead from one leaf to another, whatever will be made
-pub record MovesAlong (plan : Plan) (output : Output) (from : Leaf) (moves : List Move) (to : Leaf) : Type 0 where
-  pub stands : (final : List CodeRow) → Stays output final → LeadsThroughMoves (emission_in plan) final from moves to
+pub record MovesAlong (plan : Plan) (scratch : ℕ) (output : Output) (from : Leaf) (moves : List Move) (to : Leaf) : Type 0 where
+  pub stands : (final : List CodeRow) → Stays output final → LeadsThroughMoves (emission_in plan) scratch final from moves to
 
 -- or from one to a region
-pub record MovesToRegion (plan : Plan) (output : Output) (from : Leaf) (moves : List Move) (region : ℕ) : Type 0 where
+pub record MovesToRegion (plan : Plan) (scratch : ℕ) (output : Output) (from : Leaf) (moves : List Move) (region : ℕ) : Type 0 where
   pub to : Leaf
   pub leads : LeadsToRegion (emission_in plan) region to
-  pub along : MovesAlong plan output from moves to
+  pub along : MovesAlong plan scratch output from moves to
 
 -- a leaf stands that names have these registers at, whatever will be made
 pub record LeafMade (plan : Plan) (site : PackedSite) (of : ℕ → ℕ) (output : Output) (leaf : AutomatonLeaf) (made : Leaf) : Type 0 where

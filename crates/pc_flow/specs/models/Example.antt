@@ -14,4 +14,5 @@ example = record {
   entry = 0;
   loops = [];
   arrays = [];
+  initial = [];
 }

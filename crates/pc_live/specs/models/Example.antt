@@ -24,4 +24,5 @@ example = record {
   entry = 0;
   loops = record { line = 1; header = 1; outer = None } ∷ [];
   arrays = [];
+  initial = [];
 }

@@ -1,7 +1,9 @@
 -- A flow graph in the making: all its nodes are there from the start, and are placed one after the other. A node that is
 -- not placed yet has rank 0 and stops; each one that is placed gets a rank above all before it.
-use Rattle.std.specs.Prelude.{◌≡◌, ℕ, zero, suc, ◌+◌, ◌<◌, ◌≤◌, List, [], ◌∷◌, length, replicate, Option, Some, None, IfSome, slice_get, slice_set, slice_index}
+use Rattle.std.specs.Prelude.{◌≡◌, ℕ, zero, suc, ℤ, ◌+◌, ◌<◌, ◌≤◌, All, List, [], ◌∷◌, length, replicate, Option, Some, None, IfSome, slice_get, slice_set, slice_index}
+use Rattle.pc_word.specs.Data.{AreData}
 use Rattle.pc_word.specs.SourceLimits.{most_nodes}
+use Rattle.pc_word.specs.Word.{IsWord}
 use Rattle.pc_word.specs.MachineLimits.{most_arrays}
 use Rattle.pc_word.specs.declared.item.Operand.{Operand}
 use Rattle.pc_word.specs.declared.loop_mark.LoopMark.{LoopMark}
@@ -118,16 +120,18 @@ headed number header draft = record draft { graph = record draft.graph { loops =
 
 -- ---- from the first to the last
 
--- loops and arrays that a graph may have
-pub record MayBegin (count : ℕ) (loops : List LoopMark) (arrays : List ℕ) : Type 0 where
+-- loops, arrays and data that a graph may have
+pub record MayBegin (count : ℕ) (loops : List LoopMark) (arrays : List ℕ) (initial : List (List ℤ)) : Type 0 where
   pub some_nodes : 1 ≤ count
   pub few_nodes : count ≤ most_nodes
   pub few_arrays : length arrays ≤ most_arrays
+  pub data_fit : AreData arrays initial
+  pub data_words : All (All IsWord) initial
   pub outer_first : (loop : ℕ) (mark : LoopMark) → slice_get loops loop ≡ Some mark → IfSome mark.outer (λ outer. outer < loop)
 
 -- so many nodes, of which none is placed
-abbrev pub first_draft : ℕ → List LoopMark → List ℕ → Draft
-first_draft count loops arrays = record {
+abbrev pub first_draft : ℕ → List LoopMark → List ℕ → List (List ℤ) → Draft
+first_draft count loops arrays initial = record {
   graph = record {
     nodes = replicate count Stop;
     ranks = replicate count 0;
@@ -135,6 +139,7 @@ first_draft count loops arrays = record {
     entry = 0;
     loops = loops;
     arrays = arrays;
+    initial = initial;
   };
   ranked = 0;
 }

@@ -31,6 +31,7 @@ pub record Fills (old new : Draft) (from to : ℕ) (Mine : ℕ → Type 0) : Typ
   pub as_many_loops : length new.graph.loops ≡ length old.graph.loops
   pub same_loops : source_loops new.graph.loops ≡ source_loops old.graph.loops
   pub arrays : new.graph.arrays ≡ old.graph.arrays
+  pub initial : new.graph.initial ≡ old.graph.initial
   pub nodes_kept : (i : ℕ) → IsOutside from to i → slice_get new.graph.nodes i ≡ slice_get old.graph.nodes i
   pub inside_kept : (i : ℕ) → IsOutside from to i → slice_get new.graph.inside i ≡ slice_get old.graph.inside i
   pub loops_kept : (loop : ℕ) → (Mine loop → ⊥) → slice_get new.graph.loops loop ≡ slice_get old.graph.loops loop

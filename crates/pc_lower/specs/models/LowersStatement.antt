@@ -133,6 +133,7 @@ pub record IsUnplaced (draft : Draft) (body : SourceList) : Type 0 where
 pub record IsLaid (old new : Draft) (body : SourceList) (entry : ℕ) : Type 0 where
   pub counted : length new.graph.nodes ≡ length old.graph.nodes
   pub arrays : new.graph.arrays ≡ old.graph.arrays
+  pub initial : new.graph.initial ≡ old.graph.initial
   pub loops : source_loops new.graph.loops ≡ source_loops old.graph.loops
   pub lowers : Lowers (record new.graph { entry = entry }) body
   pub begins : IsTarget new.graph entry

@@ -1,5 +1,6 @@
 -- The parser of statements, under a budget of height.
-use Rattle.std.specs.Prelude.{ℕ, zero, suc, ℤ, pos, negsuc, ◌+◌, ◌-◌, max, Option, Some, None, List, length, if◌then◌else◌}
+use Rattle.std.specs.Prelude.{ℕ, zero, suc, ℤ, pos, negsuc, ◌+◌, ◌-◌, max, Option, Some, None, List, [], ◌∷◌, length, if◌then◌else◌}
+use Rattle.pc_word.specs.Word.{word_sub}
 use Rattle.pc_lexer.specs.declared.token.Token.{Token}
 use Rattle.pc_lexer.specs.declared.token.TokenKind.{TokenKind}
 use Rattle.pc_lexer.specs.declared.token.TokenKind.TheVariants as kinds
@@ -8,8 +9,11 @@ use Rattle.pc_lexer.specs.declared.mark.Mark.TheVariants as marks
 use Rattle.pc_lexer.specs.declared.keyword.Keyword.{Keyword}
 use Rattle.pc_lexer.specs.declared.keyword.Keyword.TheVariants as keys
 use Rattle.pc_syntax.specs.declared.operator.BinaryOp.{BinaryOp}
+use Rattle.pc_syntax.specs.declared.constant.Const.{Const}
 use Rattle.pc_syntax.specs.Source.{SourceExpression, SourceStatement, SourceList, OptionalStatement, Literal, Scope, ScalarDeclaration, ArrayDeclaration, Printing, Evaluation, Branch}
 use Rattle.pc_syntax.specs.Source.{WhileLoop, DoLoop, ForLoop, BreakOut, ContinueOn, ReturnFrom, Nothing, Absent, Present, No_more, More, appended}
+use Rattle.pc_parser.specs.declared.storage.Storage.{Storage}
+use Rattle.pc_parser.specs.declared.storage.Storage.TheVariants.{Automatic, Static}
 use Rattle.pc_parser.specs.Places.{kind_at, line_at}
 use Rattle.pc_parser.specs.models.Tests.{is_mark, is_key, mark_is, key_is}
 use Rattle.pc_parser.specs.Operators.{assignment_of, step_of}
@@ -54,6 +58,14 @@ length_of (Some (kinds.Key key)) = None
 length_of (Some (kinds.Mark mark)) = None
 length_of None = None
 
+-- the value of a number
+unfoldable pub number_of : Option TokenKind → Option ℤ
+number_of (Some (kinds.Number value)) = Some value
+number_of (Some (kinds.Name symbol)) = None
+number_of (Some (kinds.Key key)) = None
+number_of (Some (kinds.Mark mark)) = None
+number_of None = None
+
 -- the budget of the expression that a name begins in a statement: a lone name is looked at with a
 -- budget of 1 even where the statement's is 1, since `x++;` has the height 1
 abbrev pub name_budget : ℕ → ℕ
@@ -76,8 +88,50 @@ module _ (tokens : List Token) where
   -- the length of an array, and its bracket
   unfoldable pub array : (symbol from : ℕ) → Option ℕ → ParseOutcome SourceStatement
   array symbol from (Some length) = expect tokens marks.RightBracket (from + 3)
-      (Parsed (ArrayDeclaration symbol (line_at tokens from) (line_at tokens (from + 2)) length) 1 (from + 4))
+      (Parsed (ArrayDeclaration symbol (line_at tokens from) (line_at tokens (from + 2)) length []) 1 (from + 4))
   array symbol from None = Unreadable (from + 2)
+
+  -- the number of a constant
+  unfoldable pub plain : (from : ℕ) → Option ℤ → ParseOutcome Const
+  plain from (Some value) = Parsed (record { line = line_at tokens from; value = value }) 1 (from + 1)
+  plain from None = Unreadable from
+
+  -- the number after the `-` of a constant
+  unfoldable pub negated : (from : ℕ) → Option ℤ → ParseOutcome Const
+  negated from (Some value) = Parsed (record { line = line_at tokens from; value = word_sub (pos 0) value }) 1 (from + 2)
+  negated from None = Unreadable (from + 1)
+
+  -- a constant
+  unfoldable pub constant_at : (from : ℕ) → ParseOutcome Const
+  constant_at from =
+      if is_mark marks.Minus (kind_at tokens from) then negated from (number_of (kind_at tokens (from + 1)))
+      else plain from (number_of (kind_at tokens from))
+
+  -- constants up to a `}`, as many as there are turns
+  unfoldable pub constants_at : (turns from : ℕ) → ParseOutcome (List Const)
+  constants_at zero from = Unreadable from
+  constants_at (suc turns) from = after (constant_at from) (λ tree height at.
+      if is_mark marks.Comma (kind_at tokens at)
+      then (if is_mark marks.RightBrace (kind_at tokens (at + 1)) then Parsed (tree ∷ []) 1 (at + 2)
+      else after (constants_at turns (at + 1)) (λ rest other to. Parsed (tree ∷ rest) 1 to))
+      else expect tokens marks.RightBrace at (Parsed (tree ∷ []) 1 (at + 1)))
+
+  -- an array with the values of its initialiser, whose `=` was seen
+  unfoldable pub valued : (symbol from length : ℕ) → ParseOutcome SourceStatement
+  valued symbol from size = expect tokens marks.LeftBrace (from + 5) (after (constants_at (length tokens + 1) (from + 6)) (λ values height to.
+      Parsed (ArrayDeclaration symbol (line_at tokens from) (line_at tokens (from + 2)) size values) 1 to))
+
+  -- the length of a static array with its bracket, and its initialiser, where an `=` follows
+  unfoldable pub sized : (symbol from : ℕ) → Option ℕ → ParseOutcome SourceStatement
+  sized symbol from (Some size) = expect tokens marks.RightBracket (from + 3)
+      (if is_mark marks.Assign (kind_at tokens (from + 4)) then valued symbol from size
+      else Parsed (ArrayDeclaration symbol (line_at tokens from) (line_at tokens (from + 2)) size []) 1 (from + 4))
+  sized symbol from None = Unreadable (from + 2)
+
+  -- the declarator of this name in a static declaration, or Unreadable where there is none
+  unfoldable pub fixed_on : Option ℕ → (from : ℕ) → ParseOutcome SourceStatement
+  fixed_on (Some symbol) from = expect tokens marks.LeftBracket (from + 1) (sized symbol from (length_of (kind_at tokens (from + 2))))
+  fixed_on None from = Unreadable from
 
   -- the last declarator with its `;`
   unfoldable pub last_declarator : SourceStatement → (height at : ℕ) → ParseOutcome SourceList
@@ -167,20 +221,25 @@ module _ (tokens : List Token) where
         else Parsed (ScalarDeclaration symbol (line_at tokens from) None) 1 (from + 1))
     declarator_on None from = Unreadable from
 
-    unfoldable pub declarator_at : (from : ℕ) → ParseOutcome SourceStatement
-    declarator_at from = declarator_on (symbol_of (kind_at tokens from)) from
+    unfoldable pub declarator_at : Storage → (from : ℕ) → ParseOutcome SourceStatement
+    declarator_at Automatic from = declarator_on (symbol_of (kind_at tokens from)) from
+    declarator_at Static from = fixed_on (symbol_of (kind_at tokens from)) from
 
     -- declarators up to a `;`, as many as there are turns
-    unfoldable pub declarators_at : (turns from : ℕ) → ParseOutcome SourceList
-    declarators_at zero from = Unreadable from
-    declarators_at (suc turns) from = after (declarator_at from) (λ tree height at.
+    unfoldable pub declarators_at : Storage → (turns from : ℕ) → ParseOutcome SourceList
+    declarators_at storage zero from = Unreadable from
+    declarators_at storage (suc turns) from = after (declarator_at storage from) (λ tree height at.
         if is_mark marks.Comma (kind_at tokens at)
-        then after (declarators_at turns (at + 1)) (λ rest other to. Parsed (More tree rest) (max height other) to)
+        then after (declarators_at storage turns (at + 1)) (λ rest other to. Parsed (More tree rest) (max height other) to)
         else last_declarator tree height at)
 
     -- a declaration, whose `int` was seen
     unfoldable pub declaration_at : (from : ℕ) → ParseOutcome SourceList
-    declaration_at from = allowed 1 budget from (declarators_at (length tokens + 1) (from + 1))
+    declaration_at from = allowed 1 budget from (declarators_at Automatic (length tokens + 1) (from + 1))
+
+    -- a declaration, whose `static` was seen
+    unfoldable pub static_at : (from : ℕ) → ParseOutcome SourceList
+    static_at from = allowed 1 budget from (expect_key tokens keys.Int (from + 1) (declarators_at Static (length tokens + 1) (from + 2)))
 
     -- the first part of a `for`, with its `;`
     unfoldable pub first_at : (from : ℕ) → ParseOutcome SourceList
@@ -207,7 +266,8 @@ module _ (tokens : List Token) where
     unfoldable pub item_at : (from : ℕ) → ParseOutcome SourceList
     item_at from =
         if is_key keys.Int (kind_at tokens from) then declaration_at (budget - 1) from
-        else after (inner from) (λ tree height to. Parsed (More tree No_more) height to)
+        else (if is_key keys.Static (kind_at tokens from) then static_at (budget - 1) from
+        else after (inner from) (λ tree height to. Parsed (More tree No_more) height to))
 
     -- declarations and statements up to a `}`, as many as there are turns
     unfoldable pub items_at : (turns from : ℕ) → ParseOutcome SourceList

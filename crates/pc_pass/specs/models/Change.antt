@@ -118,8 +118,9 @@ pub record IsSkipped (change : Change) (at next : ℕ) : Type 0 where
 pub record IsChange (change : Change) : Type 0 where
   pub is_flow : IsFlow change.old
   pub same_arrays : change.new.arrays ≡ change.old.arrays
+  pub same_initial : change.new.initial ≡ change.old.initial
   pub begins : LeadsPast change.Skips change.old.entry change.new.entry
-  pub known_first : (input : List ℤ) → All IsWord input → change.Knows change.old.entry (start_state input)
+  pub known_first : (input : List ℤ) → All IsWord input → change.Knows change.old.entry (start_state change.old.initial input)
   pub skips : (at next : ℕ) → IsReachableNode change.old at → change.Skips at next → IsSkipped change at next
   pub becomes : (at : ℕ) (node : FlowNode) → IsReachableNode change.old at → slice_get change.old.nodes at ≡ Some node
       → ((next : ℕ) → change.Skips at next → ⊥) → BecomesAt change at node

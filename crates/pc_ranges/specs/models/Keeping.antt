@@ -98,7 +98,7 @@ pub record IsVoid (intervals : List Interval) : Type 0 where
 
 -- the start is within what is known at the entry
 abbrev pub BeginsWithin : FlowGraph → List Bounds → Type 0
-BeginsWithin flow map = (input : List ℤ) → IsWithin flow (bounds_at map flow.entry) (start_state input)
+BeginsWithin flow map = (input : List ℤ) → IsWithin flow (bounds_at map flow.entry) (start_state flow.initial input)
 
 -- what is known is enough for what is to be known
 pub record Implies (bounds target : Bounds) : Type 0 where

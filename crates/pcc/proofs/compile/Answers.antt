@@ -5,6 +5,7 @@ use denote.Param.Table.{Entry, Table}
 use mir.Syntax.{Dict}
 use Rattle.pc_flow.specs.FlowGraph.{FlowGraph}
 use Rattle.pc_forward.specs.Forwarded.{Forwards}
+use Rattle.pc_ranges.specs.Ranged.{LeavesRanged}
 use Rattle.pc_scalar.specs.Cleared.{WritesAreLive}
 use Rattle.pc_scalar.specs.Copied.{NamesNoCopy}
 use Rattle.pc_scalar.specs.Folded.{IsFolded}
@@ -12,7 +13,7 @@ use Rattle.pc_scalar.specs.Leaves.{Leaves}
 use Rattle.pc_scalar.specs.Valued.{ComputesNoneAgain}
 use Rattle.pcc.specs.contracts.compile_in_order.{dyn-1-ghosts}
 use Rattle.pcc.proofs.compile.Object-1.{Members}
-use Rattle.pcc.proofs.compile.OwnLists.{own-1, lawful-own-1, at-1-1, at-1-2, at-1-3, at-1-4, at-1-5}
+use Rattle.pcc.proofs.compile.OwnLists.{own-1, lawful-own-1, at-1-1, at-1-2, at-1-3, at-1-4, at-1-5, at-1-6}
 use Rattle.pcc.proofs.compile.Goals as goal
 
 -- the passes that are boxed here
@@ -41,50 +42,62 @@ compile_in_order-requires-clause-fold c =
           (read_made boxed (boxed.entry at-1-1) at-1-1 refl (FlowGraph → FlowGraph → ℕ → ℕ → Type 0) work_of _ _ _ made) did;
     }
 
-pub compile_in_order-requires-clause-copies : goal.compile_in_order-requires-clause-copies
-compile_in_order-requires-clause-copies c =
+pub compile_in_order-requires-clause-ranges : goal.compile_in_order-requires-clause-ranges
+compile_in_order-requires-clause-ranges c =
     let made = c.into_dyn_box-2.ensures.1 in
-    let none : c.in_ok-copies.copies.value.tally.changes ≡ 0 = search rules in
+    let none : c.in_ok-ranges.ranges.value.tally.changes ≡ 0 = search rules in
     record {
       named = read_made boxed (boxed.entry at-1-2) at-1-2 refl (List ℕ) name_of _ _ _ made;
       unused = read_made boxed (boxed.entry at-1-2) at-1-2 refl ℕ count_of _ _ _ made ∙ none;
       does_so = λ old new before now did.
-          subst (λ (work : FlowGraph → FlowGraph → ℕ → ℕ → Type 0). work old new before now) {y = Leaves NamesNoCopy}
+          subst (λ (work : FlowGraph → FlowGraph → ℕ → ℕ → Type 0). work old new before now) {y = LeavesRanged}
           (read_made boxed (boxed.entry at-1-2) at-1-2 refl (FlowGraph → FlowGraph → ℕ → ℕ → Type 0) work_of _ _ _ made) did;
     }
 
-pub compile_in_order-requires-clause-values : goal.compile_in_order-requires-clause-values
-compile_in_order-requires-clause-values c =
+pub compile_in_order-requires-clause-copies : goal.compile_in_order-requires-clause-copies
+compile_in_order-requires-clause-copies c =
     let made = c.into_dyn_box-3.ensures.1 in
-    let none : c.in_ok-values.values.value.tally.changes ≡ 0 = search rules in
+    let none : c.in_ok-copies.copies.value.tally.changes ≡ 0 = search rules in
     record {
       named = read_made boxed (boxed.entry at-1-3) at-1-3 refl (List ℕ) name_of _ _ _ made;
       unused = read_made boxed (boxed.entry at-1-3) at-1-3 refl ℕ count_of _ _ _ made ∙ none;
       does_so = λ old new before now did.
-          subst (λ (work : FlowGraph → FlowGraph → ℕ → ℕ → Type 0). work old new before now) {y = Leaves ComputesNoneAgain}
+          subst (λ (work : FlowGraph → FlowGraph → ℕ → ℕ → Type 0). work old new before now) {y = Leaves NamesNoCopy}
           (read_made boxed (boxed.entry at-1-3) at-1-3 refl (FlowGraph → FlowGraph → ℕ → ℕ → Type 0) work_of _ _ _ made) did;
     }
 
-pub compile_in_order-requires-clause-forward : goal.compile_in_order-requires-clause-forward
-compile_in_order-requires-clause-forward c =
+pub compile_in_order-requires-clause-values : goal.compile_in_order-requires-clause-values
+compile_in_order-requires-clause-values c =
     let made = c.into_dyn_box-4.ensures.1 in
-    let none : c.in_ok-forward.forward.value.tally.changes ≡ 0 = search rules in
+    let none : c.in_ok-values.values.value.tally.changes ≡ 0 = search rules in
     record {
       named = read_made boxed (boxed.entry at-1-4) at-1-4 refl (List ℕ) name_of _ _ _ made;
       unused = read_made boxed (boxed.entry at-1-4) at-1-4 refl ℕ count_of _ _ _ made ∙ none;
       does_so = λ old new before now did.
-          subst (λ (work : FlowGraph → FlowGraph → ℕ → ℕ → Type 0). work old new before now) {y = Forwards}
+          subst (λ (work : FlowGraph → FlowGraph → ℕ → ℕ → Type 0). work old new before now) {y = Leaves ComputesNoneAgain}
           (read_made boxed (boxed.entry at-1-4) at-1-4 refl (FlowGraph → FlowGraph → ℕ → ℕ → Type 0) work_of _ _ _ made) did;
     }
 
-pub compile_in_order-requires-clause-dead : goal.compile_in_order-requires-clause-dead
-compile_in_order-requires-clause-dead c =
+pub compile_in_order-requires-clause-forward : goal.compile_in_order-requires-clause-forward
+compile_in_order-requires-clause-forward c =
     let made = c.into_dyn_box-5.ensures.1 in
-    let none : c.in_ok-dead.dead.value.tally.changes ≡ 0 = search rules in
+    let none : c.in_ok-forward.forward.value.tally.changes ≡ 0 = search rules in
     record {
       named = read_made boxed (boxed.entry at-1-5) at-1-5 refl (List ℕ) name_of _ _ _ made;
       unused = read_made boxed (boxed.entry at-1-5) at-1-5 refl ℕ count_of _ _ _ made ∙ none;
       does_so = λ old new before now did.
-          subst (λ (work : FlowGraph → FlowGraph → ℕ → ℕ → Type 0). work old new before now) {y = Leaves WritesAreLive}
+          subst (λ (work : FlowGraph → FlowGraph → ℕ → ℕ → Type 0). work old new before now) {y = Forwards}
           (read_made boxed (boxed.entry at-1-5) at-1-5 refl (FlowGraph → FlowGraph → ℕ → ℕ → Type 0) work_of _ _ _ made) did;
+    }
+
+pub compile_in_order-requires-clause-dead : goal.compile_in_order-requires-clause-dead
+compile_in_order-requires-clause-dead c =
+    let made = c.into_dyn_box-6.ensures.1 in
+    let none : c.in_ok-dead.dead.value.tally.changes ≡ 0 = search rules in
+    record {
+      named = read_made boxed (boxed.entry at-1-6) at-1-6 refl (List ℕ) name_of _ _ _ made;
+      unused = read_made boxed (boxed.entry at-1-6) at-1-6 refl ℕ count_of _ _ _ made ∙ none;
+      does_so = λ old new before now did.
+          subst (λ (work : FlowGraph → FlowGraph → ℕ → ℕ → Type 0). work old new before now) {y = Leaves WritesAreLive}
+          (read_made boxed (boxed.entry at-1-6) at-1-6 refl (FlowGraph → FlowGraph → ℕ → ℕ → Type 0) work_of _ _ _ made) did;
     }

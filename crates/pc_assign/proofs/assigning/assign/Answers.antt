@@ -1,63 +1,15 @@
-use Rattle.std.proofs.Common.{arith, rules, ◌≡◌, ◌+◌, ◌++◌, ◌∷◌, suc, sym, ◌∙◌, ap, subst, length, List, Option, ℕ, [], Err, unwrap_or, Result}
-use Rattle.std.specs.Prelude.{slice_get, MatchResult}
-use Rattle.pc_automaton.specs.Automaton.{state_in, states_in}
-use Rattle.pc_assign.specs.Pressure.{LowBefore}
-use Rattle.pc_assign.specs.Assigned.{IsAssigned}
-use Rattle.pc_assign.specs.Stored.{registers_in, beside, Refuses}
-use Rattle.pc_assign.specs.declared.assigned.Assigned.{Assigned}
-use Rattle.pc_assign.specs.declared.assigned.StateRegisters.{StateRegisters}
-use Rattle.pc_assign.specs.declared.error.AssignError.{AssignError}
-use Rattle.pc_assign.specs.models.Passing.{noted, Notes}
-use Rattle.pc_assign.specs.models.Assigning.{AreGiven}
-use Rattle.pc_assign.proofs.AllGiven.{stored_at, stands_once, one_more_given, all_stored, refused, written_back}
+use Rattle.std.proofs.Common.{subst}
+use Rattle.pc_automaton.specs.Automaton.{states_in}
+use Rattle.pc_assign.specs.Pressure.{few_scratch}
+use Rattle.pc_assign.specs.models.Assigning.{RefusesStates}
+use Rattle.pc_assign.proofs.AllGiven.{assigned_few, assigned_then}
 use Rattle.pc_assign.proofs.assigning.assign.Goals as goal
-use Rattle.pc_word.specs.StoredRow.{row_in}
 
-pub assign_state-requires-clause-once : goal.assign_state-requires-clause-once
-assign_state-requires-clause-once c =
-    stands_once (states_in c.args.automaton.now) c.loop-number.number (state_in c.state-state.result.now) c.count-count.ensures.kept
-    (stored_at c.args.automaton.now c.loop-number.number c.state-state.result.now c.state-state.ensures)
+pub returns-in-Ok : goal.returns-in-Ok
+returns-in-Ok c = assigned_few c.args.automaton.now c.in-Ok.assigned c.in-Ok.ensures.scratch c.in-Ok.ensures.given
 
-pub assign_state-requires-clause-variables : goal.assign_state-requires-clause-variables
-assign_state-requires-clause-variables c first =
-    c.requires.variables.below (state_in c.state-state.result.now)
-    (ap (slice_get (states_in c.args.automaton.now)) (sym first)
-    ∙ stored_at c.args.automaton.now c.loop-number.number c.state-state.result.now c.state-state.ensures)
-
-pub returns-in_err-given : goal.returns-in_err-given
-returns-in_err-given c =
-    let states = states_in c.args.automaton.now in
-    let is_err : c.from_residual-in_err-given.result ≡ Err c.in_err-given.field-0.0 = search rules in
-    subst (λ (result : Result Assigned AssignError).
-    MatchResult result (λ assigned. LowBefore states (length c.args.automaton.now) × IsAssigned states (registers_in assigned))
-    (λ why. Refuses states why)) (sym is_err)
-    (refused states c.loop-number.number
-    (state_in c.state-state.result.now) c.loop-number.states c.loop-number.table.items c.in_err-given.field-0.0 c.loop-number.invariant
-    (stored_at c.args.automaton.now c.loop-number.number c.state-state.result.now c.state-state.ensures) c.in_err-given.ensures)
-
-pub loop-number-preserved : goal.loop-number-preserved
-loop-number-preserved c =
-    let states = states_in c.args.automaton.now in
-    let state = c.state-state.result.now in
-    let given : StateRegisters = c.in_ok-given.given in
-    let later : List (Option (List (Option ℕ))) = c.note.new.table in
-    let table : List (Option (List (Option ℕ))) = c.loop-number.table.items in
-    let notes : Notes (beside given.names.keys given.registers) (row_in (λ leaf. leaf) state.row) table later =
-    subst (λ (old : List (Option (List (Option ℕ)))). Notes (beside given.names.keys given.registers) (row_in (λ leaf. leaf) state.row) old later)
-    c.as_mut_slice.ensures.value c.in_ok-note.ensures in
-    let long : length table ≡ c.loop-number.table.len = ap length (sym c.as_mut_slice.ensures.value) ∙ c.as_mut_slice.ensures.len in
-    let passed = c.passed_to-passed.ensures ∙ ap
-    (λ (slots : List (Option (List (Option ℕ)))). unwrap_or (noted slots c.loop-number.number) []) c.as_slice.ensures.value in
-    let next : suc c.loop-number.number ≡ c.loop-number.number + 1 = omega arith in
-    let more = one_more_given states c.loop-number.number
-    (state_in state) c.loop-number.states given table later c.passed_to-passed.result.now c.loop-number.invariant
-    (stored_at c.args.automaton.now c.loop-number.number state c.state-state.ensures) passed c.in_ok-given.ensures notes in
-    subst (λ (slots : List (Option (List (Option ℕ)))). AreGiven states (c.loop-number.number + 1) c.push.new.self slots)
-    (sym (written_back later _ c.loop-number.table.len (sym (notes.as_many ∙ long))))
-    (subst (λ (list : List StateRegisters). AreGiven states (c.loop-number.number + 1) list later) (sym c.in_ok-push.ensures.ok)
-    (subst (λ (n : ℕ). AreGiven states n (c.loop-number.states ++ given ∷ []) later) next more))
-
-pub returns : goal.returns
-returns c =
-    all_stored c.args.automaton.now c.loop-number.number c.loop-number.states c.loop-number.table.items
-    (omega (arith, c.count-count.ensures.number)) c.loop-number.invariant
+pub returns-in-Err-Pressure : goal.returns-in-Err-Pressure
+returns-in-Err-Pressure c =
+    let again = c.assign_below-in-Err-Pressure in
+    let first = subst (RefusesStates few_scratch (states_in c.args.automaton.now)) c.in-Err-Pressure.field-0-is c.in-Err-Pressure.ensures.given in
+    assigned_then c.args.automaton.now c.in-Err-Pressure.field-0-0 c.in-Err-Pressure.field-0-1 first again.result again.ensures.given again.ensures.scratch

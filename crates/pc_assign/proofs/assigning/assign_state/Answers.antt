@@ -10,8 +10,8 @@ high_pressure-requires-clause-names c =
 
 pub returns : goal.returns
 returns c =
-    let low : IsLow (state_in c.args.state.now) = search rules in
-    given_is c.args.number c.args.passed.now (state_in c.args.state.now)
+    let low : IsLow c.args.scratch (state_in c.args.state.now) = search rules in
+    given_is c.args.scratch c.args.number c.args.passed.now (state_in c.args.state.now)
     (record { names = c.in_ok-names.names; registers = c.in_ok-registers.registers })
     c.as_slice-parameters.result.now c.in_ok-held.held c.as_slice.result.now c.in_ok-names.ensures
     c.requires.once low c.as_slice-parameters.ensures c.as_slice.ensures

@@ -22,7 +22,7 @@ returns-in-Some-clause-live t c =
     (row_in (λ leaf. leaf) tree))
     c.deref.ensures c.pressure_below-below.ensures.live in
     let counted : c.count.result ≡ count_by (row_uses rest) parameters =
-    used_count (row_uses rest) parameters c.pressure_below-below.result.used c.count.result used c.count.ensures.count in
+    used_count (row_uses rest) parameters c.pressure_below-below.result.used c.count.result used c.count.ensures.count c.count.ensures.fits in
     let here : c.args.above + 1 + c.from.result ≡ suc c.args.above + count_by (row_uses rest) parameters = omega (arith, c.from.ensures, counted) in
     defining_pressure parameters c.args.above (row_in (λ leaf. leaf) c.args.row.now) rest c.in-Step.item c.in-Some.field-0 (c.args.above + 1)
     (c.args.above + 1 + c.from.result) c.pressure_below-below.result.live c.max.result (ap (row_in (λ leaf. leaf)) c.in-Step.is)

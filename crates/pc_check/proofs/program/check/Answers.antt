@@ -4,7 +4,7 @@ use Rattle.pc_check.specs.Resolution.{resolved}
 use Rattle.pc_check.specs.Checks.{resolved_of}
 use Rattle.pc_check.specs.models.View.{names_of}
 use Rattle.pc_check.proofs.FaultLaws.{exact_refusal}
-use Rattle.pc_check.proofs.ProgramLaws.{program-resolves, statements-sound}
+use Rattle.pc_check.proofs.ProgramLaws.{program-resolves, statements-sound, statements-data}
 use Rattle.pc_check.proofs.program.check.Goals as goal
 
 -- it is what the check gives of this program, and what was checked holds of it
@@ -16,22 +16,27 @@ invariant_of-result c =
     let items = list_of c.in_ok-items.items in
     let start = c.new-scopes.ensures in
     let resolves = c.in_ok-items.ensures.resolved in
-    let counted = c.scalars.ensures.value in
-    let measured = c.into_lengths.ensures.value in
+    let counted = c.scalars-scalars.ensures.value in
+    let measured = c.into_arrays-arrays.ensures.lengths in
+    let begun = c.into_arrays-arrays.ensures.data in
+    let arrays = c.into_arrays-arrays.result.0 in
+    let initial = c.into_arrays-arrays.result.1 in
     record {
-      few_scalars = c.scalars.ensures.few;
-      few_arrays = c.into_lengths.ensures.few;
-      sized = c.into_lengths.ensures.sized;
-      few_elements = c.into_lengths.ensures.few_elements;
-      sound = statements-sound program.items before behind items c.scalars.result c.into_lengths.result start resolves counted measured;
-      of_a_program = ∣ (program, program-resolves program before behind items c.scalars.result c.into_lengths.result start resolves counted measured) ∣₁;
+      few_scalars = c.scalars-scalars.ensures.few;
+      few_arrays = c.into_arrays-arrays.ensures.few;
+      sized = c.into_arrays-arrays.ensures.sized;
+      few_elements = c.into_arrays-arrays.ensures.few_elements;
+      data_fits = statements-data program.items before behind items arrays initial start resolves measured begun;
+      sound = statements-sound program.items before behind items c.scalars-scalars.result arrays start resolves counted measured;
+      of_a_program = ∣ (program, program-resolves program before behind items c.scalars-scalars.result arrays initial start resolves counted measured begun) ∣₁;
     }
 
 -- the resolved program
 pub returns : goal.returns
 returns c =
     program-resolves (program_of c.args.program.now) (names_of c.new-scopes.result) (names_of c.check_list.new.scopes) (list_of c.in_ok-items.items)
-    c.scalars.result c.into_lengths.result c.new-scopes.ensures c.in_ok-items.ensures.resolved c.scalars.ensures.value c.into_lengths.ensures.value
+    c.scalars-scalars.result c.into_arrays-arrays.result.0 c.into_arrays-arrays.result.1 c.new-scopes.ensures c.in_ok-items.ensures.resolved
+    c.scalars-scalars.ensures.value c.into_arrays-arrays.ensures.lengths c.into_arrays-arrays.ensures.data
 
 -- the first fault
 pub returns-in_err-items : goal.returns-in_err-items

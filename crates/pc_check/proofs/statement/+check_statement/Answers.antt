@@ -1,7 +1,6 @@
 use Rattle.std.proofs.Common.{sym, subst, ◌<◌, length, IfErr}
-use Rattle.pc_syntax.specs.Source.{SourceStatement, Scope, ForLoop}
-use Rattle.pc_syntax.specs.declared.statement.Stmt.{For}
-use Rattle.pc_syntax.specs.Erasure.{expression_of, statement_of, optional_of, list_of}
+use Rattle.pc_syntax.specs.Source.{SourceStatement, Scope}
+use Rattle.pc_syntax.specs.Erasure.{statement_of, list_of}
 use Rattle.pc_syntax.proofs.ErasureLaws.{statement_of-While, statement_of-Do, statement_of-For, statement_of-made_For, statement_of-made_Block}
 use Rattle.pc_check.specs.Faults.{statement_faults}
 use Rattle.pc_check.specs.models.Resolves.{IsFirst, StatementResolves}

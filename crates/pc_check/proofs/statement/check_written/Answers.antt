@@ -17,7 +17,7 @@ pub returns-in-Array-clause-refused : goal.returns-in-Array-clause-refused
 returns-in-Array-clause-refused c =
     let P : SourceStatement → Type 0 =
     λ s. IfErr c.check_array.result (λ e. IsFirst e (statement_faults c.args.in_loop s (names_of c.args.scopes.now))) in
-    subst P (sym (statement_of-Array c.args.from.now c.in-Array.symbol c.in-Array.line c.in-Array.at c.in-Array.length c.in-Array.is)) (c.check_array.ensures.refused c.args.in_loop)
+    subst P (sym (statement_of-Array c.args.from.now c.in-Array.symbol c.in-Array.line c.in-Array.at c.in-Array.length c.in-Array.values c.in-Array.is)) (c.check_array.ensures.refused c.args.in_loop)
 
 pub returns-in-Assign-clause-refused : goal.returns-in-Assign-clause-refused
 returns-in-Assign-clause-refused c =

@@ -12,7 +12,7 @@ pub returns : goal.returns
 returns c limits extent =
     let finds = rw c.in_ok-found.ensures at c.in_ok-find.ensures in
     let count = c.len-count.ensures ∙ sym (map_length table_region c.args.table.now.regions) in
-    progress_begins (table_of c.args.table.now) limits extent _ finds.order
+    progress_begins (table_of c.args.table.now) c.args.initial.now limits extent _ finds.order
     (finds.as_many ∙ length-replicate c.len-count.result false ∙ count)
     c.new-2.ensures
     (c.in_ok-no_forms.ensures.none ∙ ap (λ (n : ℕ). let nothing : Option RegionForm = None in replicate n nothing) count)

@@ -1,4 +1,4 @@
-use Rattle.pc_compile.proofs.CostBounds.{steps_cost_few}
+use Rattle.pc_compile.proofs.CostBounds.{steps_cost_few, most_are_enough}
 use Rattle.pc_compile.proofs.Paces.{emitted_rows_keep_pace, tightened_codes_keep_pace}
 use Rattle.pc_compile.proofs.RegionPaces.{schedules_keep_pace}
 use Rattle.pc_compile.proofs.SourcePace.{regions_keep_pace}
@@ -18,3 +18,6 @@ returns-clause-emitted c = emitted_rows_keep_pace
 
 pub returns-clause-tightened : goal.returns-clause-tightened
 returns-clause-tightened c = tightened_codes_keep_pace
+
+pub returns-clause-enough : goal.returns-clause-enough
+returns-clause-enough c = most_are_enough

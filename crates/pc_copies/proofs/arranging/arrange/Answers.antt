@@ -14,7 +14,7 @@ returns-then-len-ops c =
 pub returns : goal.returns
 returns c =
     let many = ap (λ (l : List Move). length l) c.in_ok-kept.ensures in
-    let packed = rw (c.as_slice.ensures, c.in_ok-kept.ensures, c.from-ops.ensures) at c.in_ok-packing.ensures in
+    let packed = rw (c.as_slice.ensures, c.in_ok-kept.ensures, c.from-ops.ensures, c.from.ensures) at c.in_ok-packing.ensures in
     rw c.in_ok-in_order.ensures
     (arranged c.args.moves.now c.args.ops c.args.scratch c.in_ok-packing.packing.rows c.in_ok-packing.packing.first c.requires.moves c.requires.ops
     (omega (arith, many, c.len.ensures, c.from-ops.ensures, c.if-len-ops.false)) packed)

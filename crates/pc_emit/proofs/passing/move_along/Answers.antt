@@ -1,6 +1,5 @@
 use Rattle.std.proofs.Common.{rules, ◌≡◌, ◌<◌, ◌-◌, length, suc, sym, subst, drop, arith}
-use Rattle.pc_assign.specs.Pressure.{allowed}
-use Rattle.pc_copies.specs.Moves.{IsArranged}
+use Rattle.pc_copies.specs.Moves.{nontrivial_moves, one_names, IsArranged}
 use Rattle.pc_copies.specs.Laws.{copy_row}
 use Rattle.pc_machine.specs.MachineCode.{row_of}
 use Rattle.pc_emit.proofs.Passings.{LeadsThrough, through_rest_of_none, through_from, through_one, row_at, along_short}
@@ -29,9 +28,10 @@ loop-at-preserved c =
     record {
       within = omega (arith, within);
       through = through_from c.args.plan.now c.args.output.now new rows (c.loop-at.at - 1) copies _ c.args.to below (search rules)
-          (through_one c.args.plan.now c.args.output.now c.loop-at.output new c.in_ok-push_copies.field-0 (row_of c.in_ok-row.row) copies (drop (suc (c.loop-at.at - 1)) rows)
+          (through_one c.args.scratch c.args.moves.now c.requires.moves c.args.plan.now c.requires.left c.args.output.now c.loop-at.output new
+          c.in_ok-push_copies.field-0 (row_of c.in_ok-row.row) copies (drop (suc (c.loop-at.at - 1)) rows)
           c.loop-at.from c.args.to is before made.grows made.stands
-          (row_at c.args.plan.now.limits.ops rows (c.loop-at.at - 1) copies (search rules) below (search rules))
+          (row_at (one_names (nontrivial_moves c.args.moves.now)) c.args.plan.now.limits.ops c.args.scratch rows (c.loop-at.at - 1) copies (search rules) below (search rules))
           made.rows made.copies made.number);
     }
 
@@ -42,5 +42,5 @@ returns-clause-short c =
     let through = subst
     (λ at. LeadsThrough c.args.plan.now c.args.output.now c.loop-at.output c.loop-at.from (drop at rows) c.args.to)
     none c.loop-at.invariant.through in
-    let arranged = subst (IsArranged c.args.moves.now c.args.plan.now.limits.ops allowed) (sym c.as_slice-rows.ensures) c.in_ok-rows.ensures in
-    along_short c.args.plan.now c.args.output.now c.loop-at.output c.loop-at.from c.args.to c.args.moves.now rows through arranged
+    let arranged = subst (IsArranged c.args.moves.now c.args.plan.now.limits.ops c.args.scratch) (sym c.as_slice-rows.ensures) c.in_ok-rows.ensures in
+    along_short c.args.plan.now c.args.scratch c.args.output.now c.loop-at.output c.loop-at.from c.args.to c.args.moves.now rows through arranged

@@ -34,6 +34,8 @@ new-requires c =
         some_nodes = omega (arith, size);
         few_nodes = omega (arith, fits);
         few_arrays = omega (arith, arrays, few);
+        data_fit = rw (c.in_ok-arrays.ensures, c.as_slice.ensures, c.in_ok-initial.ensures.copied) c.args.checked.now.data_fits;
+        data_words = rw c.in_ok-initial.ensures.copied c.in_ok-initial.ensures.fit;
         outer_first = marks_of_program c.mark_list.new.marks (list_of c.args.checked.now.body.items) (rw c.new-loops.ensures at c.in_ok-mark_list.ensures.marked);
       };
     }
@@ -53,7 +55,7 @@ lower_body-entry-requires-clause-first c =
     let arrays : AreLengths c.in_ok-arrays.arrays = rw (c.in_ok-arrays.ensures, c.as_slice.ensures)
     (are_lengths c.args.checked.now.arrays c.args.checked.now.few_arrays c.args.checked.now.sized) in
     let marked = rw none at c.in_ok-mark_list.ensures.marked in
-    rw c.in_ok-draft.ensures (is_unplaced c.size-count.result c.mark_list.new.marks c.in_ok-arrays.arrays body count few as_many marked arrays)
+    rw c.in_ok-draft.ensures (is_unplaced c.size-count.result c.mark_list.new.marks c.in_ok-arrays.arrays c.in_ok-initial.initial body count few as_many marked arrays)
 
 pub lower_body-entry-requires-clause-sound : goal.lower_body-entry-requires-clause-sound
 lower_body-entry-requires-clause-sound c =
@@ -69,8 +71,9 @@ returns-clause-lowered c =
     let few : c.size-count.result ≤ most_nodes = omega (arith, fits) in
     let count : c.size-count.result ≡ list_size body + 1 = omega (arith, size, few) in
     let arrays : c.in_ok-draft.draft.graph.arrays ≡ c.args.checked.now.arrays = rw (c.in_ok-draft.ensures, c.in_ok-arrays.ensures) c.as_slice.ensures in
+    let initial : c.in_ok-draft.draft.graph.initial ≡ c.args.checked.now.initial = rw c.in_ok-draft.ensures c.in_ok-initial.ensures.copied in
     let nodes : length c.in_ok-draft.draft.graph.nodes ≡ list_size body + 1 = rw c.in_ok-draft.ensures (length-replicate c.size-count.result Stop ∙ count) in
     let marked : source_loops c.in_ok-draft.draft.graph.loops ≡ loops_of (resolved_of c.args.checked.now) = rw (c.in_ok-draft.ensures, c.in_ok-mark_list.ensures.marked, c.new-loops.ensures) in
     is_lowered (resolved_of c.args.checked.now) c.in_ok-draft.draft c.lower_body-entry.new.draft c.lower_body-entry.result c.into_flow.result
-    c.lower_body-entry.ensures.laid arrays nodes (omega (arith, count, few)) marked c.into_flow.ensures.begun c.into_flow.ensures.tests
+    c.lower_body-entry.ensures.laid arrays initial nodes (omega (arith, count, few)) marked c.into_flow.ensures.begun c.into_flow.ensures.tests
     c.lower_body-entry.ensures.tested

@@ -1,5 +1,5 @@
 use Rattle.std.proofs.Common.{◌≡◌, drop}
-use Rattle.pc_machine.specs.Data.{has_no_data}
+use Rattle.pc_word.specs.Data.{has_no_data}
 use Rattle.pc_object.proofs.version.has_no_data.Given as goal
 
 -- what is said is said of the lists that are left

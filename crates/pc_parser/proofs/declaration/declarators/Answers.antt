@@ -10,7 +10,7 @@ use Rattle.pc_parser.proofs.declaration.declarators.Goals as goal
 pub returns-in_err-first-clause-gives : goal.returns-in_err-first-clause-gives
 returns-in_err-first-clause-gives c =
     let p = err_from_is_err_and c.from_residual.result c.from_residual.ensures.1 in
-    rw (p.1, p.2) (declarators-fail_first c.args.tokens.now c.args.budget (list_of c.args.items) c.args.place _ c.in_err-first.ensures.gives)
+    rw (p.1, p.2) (declarators-fail_first c.args.tokens.now c.args.budget c.args.storage (list_of c.args.items) c.args.place _ c.in_err-first.ensures.gives)
 
 -- the first declarator
 pub loop-alloc-init : goal.loop-alloc-init
@@ -22,7 +22,7 @@ loop-alloc-init c =
     record {
       turns = length tokens;
       enough = omega arith;
-      same = declarators-init tokens c.args.budget (list_of c.args.items) (list_of c.push.new.self) c.args.place (statement_of first.tree) first.height first.next c.in_ok-first.ensures.gives
+      same = declarators-init tokens c.args.budget c.args.storage (list_of c.args.items) (list_of c.push.new.self) c.args.place (statement_of first.tree) first.height first.next c.in_ok-first.ensures.gives
           (ap list_of c.in_ok-push.ensures.ok ∙ list_of-push c.args.items first.tree);
       low = ends.low;
       inside = ends.inside;
@@ -36,7 +36,7 @@ returns-in_err-other-clause-gives c =
     let so_far = c.loop-alloc.invariant in
     let enough = so_far.enough in
     let inside = c.loop-alloc-test.ensures.inside in
-    rw (p.1, p.2) (declarators-fail_more c.args.tokens.now c.args.budget _ (list_of c.loop-alloc.items) c.loop-alloc.height c.loop-alloc.next so_far.turns _ so_far.same
+    rw (p.1, p.2) (declarators-fail_more c.args.tokens.now c.args.budget c.args.storage _ (list_of c.loop-alloc.items) c.loop-alloc.height c.loop-alloc.next so_far.turns _ so_far.same
     (sym c.loop-alloc-test.ensures.value) (omega arith) c.in_err-other.ensures.gives)
 
 -- one more declarator
@@ -56,7 +56,7 @@ loop-alloc-preserved c =
     record {
       turns = so_far.turns - 1;
       enough = omega arith;
-      same = declarators-more tokens c.args.budget _ (list_of c.loop-alloc.items)
+      same = declarators-more tokens c.args.budget c.args.storage _ (list_of c.loop-alloc.items)
           (list_of c.push-in-loop-alloc.new.self) c.loop-alloc.height c.loop-alloc.next so_far.turns
           (statement_of other.tree) other.height other.next c.max-height.result so_far.same
           (sym c.loop-alloc-test.ensures.value) (omega arith) c.in_ok-other.ensures.gives (ap list_of c.in_ok-push-2.ensures.ok ∙ list_of-push c.loop-alloc.items other.tree) high;

@@ -10,7 +10,7 @@ abbrev pub invariant-loop-alloc : goal.invariant-loop-alloc
 invariant-loop-alloc l = record {
   turns : ℕ;
   enough : length l.tokens < l.next + 1 + turns;
-  same : behind (list_of l.fn.items) (declarators_at l.tokens l.budget (length l.tokens + 1) l.place) ≡ continued l.tokens l.budget (list_of l.items) l.height l.next turns;
+  same : behind (list_of l.fn.items) (declarators_at l.tokens l.budget l.storage (length l.tokens + 1) l.place) ≡ continued l.tokens l.budget l.storage (list_of l.items) l.height l.next turns;
   low : l.height ≤ l.budget;
   inside : l.next ≤ length l.tokens;
   further : l.place < l.next;

@@ -1,10 +1,11 @@
-use Rattle.std.proofs.Common.{◌≡◌, ◌++◌, drop, string_bytes}
+use Rattle.std.proofs.Common.{◌≡◌, ◌++◌, drop, option_map, string_bytes}
 use Rattle.pc_machine.specs.MachineCode.{code_of, rows_of}
 use Rattle.pc_view.specs.Listing.{lines_text, rows_lines}
+use Rattle.pc_view.specs.Tally.{tallied}
 use Rattle.pc_view.proofs.listing.push_rows.Given as goal
 
 -- the text with the lines of the rows from here on is the text at the start with those of all rows
 abbrev pub invariant-loop-number : goal.invariant-loop-number
 invariant-loop-number l =
-    string_bytes l.text ++ lines_text (rows_lines (code_of l.code) l.number (rows_of (drop l.number l.rows)))
-    ≡ string_bytes l.initial.text ++ lines_text (rows_lines (code_of l.code) 0 (rows_of l.rows))
+    string_bytes l.text ++ lines_text (rows_lines (option_map tallied l.told) (code_of l.code) l.number (rows_of (drop l.number l.rows)))
+    ≡ string_bytes l.initial.text ++ lines_text (rows_lines (option_map tallied l.told) (code_of l.code) 0 (rows_of l.rows))

@@ -1,7 +1,6 @@
-use Rattle.std.proofs.Common.{◌≡◌, ◌∙◌, ap, arith, w32, to_z, of_z, ◌%◌}
+use Rattle.std.proofs.Common.{◌≡◌, ◌∙◌, arith, w32, to_z, of_z, ◌%◌}
 use Rattle.std.specs.Int.{cast_unsigned, int_shl}
 use Rattle.std.proofs.lemmas.Int.{ints}
-use Rattle.pc_word.specs.Word.{word_shl}
 use Rattle.pc_word.proofs.Words.{word_shl-bits}
 use Rattle.pc_word.proofs.word.shl.Goals as goal
 

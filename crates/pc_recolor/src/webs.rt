@@ -1,0 +1,402 @@
+//! Where each set of nodes has its register: at the points at which registers must be apart.
+use crate::checking::only_gives;
+use crate::liveness::needed_at;
+use crate::nodes::{NodeSets, node_below, node_of};
+use crate::register_set::RegisterSet;
+use pc_arena::{Arena, NodeId};
+use pc_machine::{Leaf, Tree};
+use pc_word::{Item, Operand, OutOfMemory, RowTree};
+use std::alloc::{AllocError, Global};
+
+/// The points at which a set of nodes has its register, in order.
+#[derive(Debug, Drop)]
+pub(crate) struct Web {
+    pub(crate) points: Vec<u32>,
+}
+
+/// Webs, as nodes of the graph of what may share a register: two that share no point may.
+#[derive(Drop)]
+pub(crate) struct Webs {
+    /// The webs.
+    webs: Arena<Web>,
+    /// Where the web with each number stands.
+    ids: Vec<Option<NodeId>>,
+    /// The number of the web of each node that is the least of its set.
+    numbers: Vec<Option<u32>>,
+}
+
+/// The points of webs, by number, while they are gathered.
+#[derive(Drop)]
+struct Gathering {
+    points: Vec<Vec<u32>>,
+    numbers: Vec<Option<u32>>,
+}
+
+impl Gathering {
+    /// The number of the web of a node that is the least of its set, which is a new one if need be.
+    fn number(&mut self, alloc: Global, least: u32) -> Result<u32, AllocError> {
+        if let Some(Some(number)) = self.numbers.get(least as usize) {
+            return Ok(*number);
+        }
+        let number = number_of(self.points.len());
+        self.points.push(Vec::new(alloc))?;
+        if let Some(entry) = self.numbers.get_mut(least as usize) {
+            *entry = Some(number);
+        }
+        Ok(number)
+    }
+
+    /// One more point at which a web has its register.
+    fn hold(&mut self, alloc: Global, least: u32, point: u32) -> Result<(), AllocError> {
+        let number = self.number(alloc, least)?;
+        match self.points.get_mut(number as usize) {
+            Some(points) => push_new(points, point),
+            None => Ok(()),
+        }
+    }
+}
+
+/// A length as a number of a web.
+fn number_of(length: usize) -> u32 {
+    match u32::try_from(length) {
+        Ok(number) => number,
+        Err(_) => u32::MAX,
+    }
+}
+
+/// Appends a point that is not the last already.
+fn push_new(points: &mut Vec<u32>, point: u32) -> Result<(), AllocError> {
+    if let Some(last) = points.last() {
+        if *last == point {
+            return Ok(());
+        }
+    }
+    points.push(point)?;
+    Ok(())
+}
+
+/// Whether two webs share no point.
+fn are_apart(one: &[u32], other: &[u32]) -> bool {
+    for point in one {
+        if other.binary_search(point).is_ok() {
+            return false;
+        }
+    }
+    true
+}
+
+/// The points of two webs, in order.
+fn merged(mut one: Vec<u32>, other: &[u32]) -> Result<Web, AllocError> {
+    for point in other {
+        one.push(*point)?;
+    }
+    one.sort_unstable();
+    Ok(Web { points: one })
+}
+
+/// How many leaves a tree has.
+pub(crate) fn count_leaves(tree: &Tree) -> u32 {
+    match tree {
+        RowTree::Step { next, .. } => count_leaves(next),
+        RowTree::Test { yes, no, .. } => count_leaves(yes).wrapping_add(count_leaves(no)),
+        RowTree::Leaf { .. } => 1,
+    }
+}
+
+/// Gathers the registers that a row needs, at a point.
+fn hold_needed(
+    alloc: Global,
+    gathering: &mut Gathering,
+    sets: &NodeSets,
+    needed: RegisterSet,
+    row: u32,
+    point: u32,
+) -> Result<(), AllocError> {
+    for register in 0..256 {
+        if needed.contains(register) {
+            let least = sets.least(node_of(row, register));
+            gathering.hold(alloc, least, point)?;
+        }
+    }
+    Ok(())
+}
+
+/// Gathers what stands in registers at the end of a path, on which these nodes are written; `None` is
+/// a register that is written though nothing needs it.
+fn hold_at_end(
+    alloc: Global,
+    gathering: &mut Gathering,
+    live: &[RegisterSet],
+    sets: &NodeSets,
+    leaf: Leaf,
+    written: &[Option<u32>],
+    point: u32,
+) -> Result<(), AllocError> {
+    if written.is_empty() {
+        return Ok(());
+    }
+    for node in written {
+        if let Some(node) = node {
+            gathering.hold(alloc, sets.least(*node), point)?;
+        }
+    }
+    match leaf.target() {
+        Some(row) => hold_needed(alloc, gathering, sets, needed_at(live, leaf), row, point),
+        None => Ok(()),
+    }
+}
+
+/// Gathers what stands in registers at the end of each path of a tree; the first of these has the
+/// number `point`.
+fn hold_below(
+    alloc: Global,
+    gathering: &mut Gathering,
+    live: &[RegisterSet],
+    sets: &NodeSets,
+    tree: &Tree,
+    written: &mut Vec<Option<u32>>,
+    point: u32,
+) -> Result<(), AllocError> {
+    match tree {
+        RowTree::Step { item, next } => {
+            let node = match item.dest() {
+                Some(dest) => node_below(live, next, dest),
+                None => None,
+            };
+            let writes = node.is_some() || (item.dest().is_some() && !only_gives(*item));
+            if writes {
+                written.push(node)?;
+            }
+            hold_below(alloc, gathering, live, sets, next, written, point)?;
+            if writes {
+                written.pop();
+            }
+            Ok(())
+        }
+        RowTree::Test { yes, no, .. } => {
+            hold_below(alloc, gathering, live, sets, yes, written, point)?;
+            let next = point.wrapping_add(count_leaves(yes));
+            hold_below(alloc, gathering, live, sets, no, written, next)
+        }
+        RowTree::Leaf { leaf } => {
+            hold_at_end(alloc, gathering, live, sets, *leaf, written, point)
+        }
+    }
+}
+
+/// Gathers the points of webs, row by row: the beginning of the row, and the end of each of its paths.
+fn gathered(
+    alloc: Global,
+    live: &[RegisterSet],
+    sets: &NodeSets,
+    rows: &[Tree],
+) -> Result<Gathering, AllocError> {
+    let mut gathering = Gathering {
+        points: Vec::new(alloc),
+        numbers: Vec::new(alloc),
+    };
+    for _row in rows {
+        for _register in 0..256 {
+            gathering.numbers.push(None)?;
+        }
+    }
+    let mut row: u32 = 0;
+    let mut point: u32 = 0;
+    let mut written = Vec::new(alloc);
+    for tree in rows {
+        let needed = live
+            .get(row as usize)
+            .copied()
+            .unwrap_or(RegisterSet::none());
+        hold_needed(alloc, &mut gathering, sets, needed, row, point)?;
+        let first = point.wrapping_add(1);
+        hold_below(alloc, &mut gathering, live, sets, tree, &mut written, first)?;
+        point = first.wrapping_add(count_leaves(tree));
+        row = row.wrapping_add(1);
+    }
+    Ok(gathering)
+}
+
+impl Webs {
+    /// The webs of rows.
+    pub(crate) fn of(
+        alloc: Global,
+        live: &[RegisterSet],
+        sets: &NodeSets,
+        rows: &[Tree],
+    ) -> Result<Webs, OutOfMemory> {
+        let Gathering { points, numbers } = gathered(alloc, live, sets, rows)?;
+        let mut webs = Arena::new(alloc);
+        let mut ids = Vec::new(alloc);
+        for points in points {
+            webs.reserve(1)?;
+            ids.push(Some(webs.put(Web { points })))?;
+        }
+        Ok(Webs { webs, ids, numbers })
+    }
+
+    /// Where the web of a node that is the least of its set stands.
+    fn id(&self, least: u32) -> Option<NodeId> {
+        match self.numbers.get(least as usize) {
+            Some(Some(number)) => self.ids.get(*number as usize).copied().unwrap_or(None),
+            _ => None,
+        }
+    }
+
+    /// Makes one web of those of two nodes that are the least of their sets, if they share no point;
+    /// whether they are one then.
+    fn merge(&mut self, one: u32, other: u32) -> Result<bool, OutOfMemory> {
+        let (Some(first), Some(second)) = (self.id(one), self.id(other)) else {
+            return Ok(false);
+        };
+        if !self.webs.holds(first) || !self.webs.holds(second) {
+            return Ok(false);
+        }
+        if !are_apart(&self.webs.get(first).points, &self.webs.get(second).points) {
+            return Ok(false);
+        }
+        let taken = self.webs.take(first);
+        if !self.webs.holds(second) {
+            return Ok(false);
+        }
+        let other_taken = self.webs.take(second);
+        let web = merged(taken.points, &other_taken.points)?;
+        self.webs.reserve(1)?;
+        let id = self.webs.put(web);
+        self.stand(one.max(other), None);
+        self.stand(one.min(other), Some(id));
+        Ok(true)
+    }
+
+    /// Says where the web of a node that is the least of its set stands.
+    fn stand(&mut self, least: u32, id: Option<NodeId>) {
+        if let Some(Some(number)) = self.numbers.get(least as usize) {
+            if let Some(entry) = self.ids.get_mut(*number as usize) {
+                *entry = id;
+            }
+        }
+    }
+
+    /// Makes the two sets of a copy one, if their webs share no point.
+    fn merge_copy(&mut self, sets: &mut NodeSets, made: u32, from: u32) -> Result<(), OutOfMemory> {
+        let one = sets.least(made);
+        let other = sets.least(from);
+        if one != other && self.merge(one, other)? {
+            sets.join(one, other);
+        }
+        Ok(())
+    }
+
+    /// Merges the webs of each copy of a row, or of what is left of one.
+    pub(crate) fn merge_copies(
+        &mut self,
+        live: &[RegisterSet],
+        sets: &mut NodeSets,
+        row: u32,
+        tree: &Tree,
+    ) -> Result<(), OutOfMemory> {
+        match tree {
+            RowTree::Step { item, next } => {
+                if let Item::Copy {
+                    dest,
+                    from: Operand::Name(from),
+                } = item
+                {
+                    if let Some(made) = node_below(live, next, *dest) {
+                        self.merge_copy(sets, made, node_of(row, *from))?;
+                    }
+                }
+                self.merge_copies(live, sets, row, next)
+            }
+            RowTree::Test { yes, no, .. } => {
+                self.merge_copies(live, sets, row, yes)?;
+                self.merge_copies(live, sets, row, no)
+            }
+            RowTree::Leaf { .. } => Ok(()),
+        }
+    }
+}
+
+/// How large a web is: those with more points come first, and among these those with lesser nodes.
+#[derive(Clone, Copy, Debug, PartialEq, Eq, PartialOrd, Ord)]
+pub(crate) struct WebSize {
+    /// The greatest number less the points.
+    fewer: u32,
+    /// The least node of its set.
+    least: u32,
+}
+
+impl Webs {
+    /// The size of the web of a node, if it is the least of its set.
+    fn size(&self, least: u32) -> Option<WebSize> {
+        let id = self.id(least)?;
+        if !self.webs.holds(id) {
+            return None;
+        }
+        let fewer = u32::MAX - number_of(self.webs.get(id).points.len());
+        Some(WebSize { fewer, least })
+    }
+
+    /// The webs, those with more points first.
+    fn sizes(&self, alloc: Global) -> Result<Vec<WebSize>, AllocError> {
+        let mut sizes = Vec::new(alloc);
+        let mut least: u32 = 0;
+        for _number in &self.numbers {
+            if let Some(size) = self.size(least) {
+                sizes.push(size)?;
+            }
+            least = least.wrapping_add(1);
+        }
+        sizes.sort_unstable();
+        Ok(sizes)
+    }
+
+    /// The least of so many registers that is taken at no point of a web, which takes it then.
+    fn first_fit(&self, taken: &mut [RegisterSet], registers: u16, least: u32) -> Option<u8> {
+        let id = self.id(least)?;
+        if !self.webs.holds(id) {
+            return None;
+        }
+        let points = &self.webs.get(id).points;
+        let mut used = RegisterSet::none();
+        for point in points {
+            used = used.with_all(set_at(taken, *point));
+        }
+        let place = used.least_other(registers)?;
+        for point in points {
+            if let Some(set) = taken.get_mut(*point as usize) {
+                *set = set.with(place as u32);
+            }
+        }
+        Some(place)
+    }
+
+    /// Gives each web a register, one after the other; `false` where one finds none.
+    pub(crate) fn colour(
+        &self,
+        alloc: Global,
+        taken: &mut [RegisterSet],
+        places: &mut [u8],
+        registers: u16,
+    ) -> Result<bool, AllocError> {
+        for size in self.sizes(alloc)? {
+            match self.first_fit(taken, registers, size.least) {
+                Some(place) => {
+                    if let Some(entry) = places.get_mut(size.least as usize) {
+                        *entry = place;
+                    }
+                }
+                None => return Ok(false),
+            }
+        }
+        Ok(true)
+    }
+}
+
+/// The registers that are taken at a point.
+pub(crate) fn set_at(taken: &[RegisterSet], point: u32) -> RegisterSet {
+    taken
+        .get(point as usize)
+        .copied()
+        .unwrap_or(RegisterSet::none())
+}

@@ -1,0 +1,7 @@
+//! Tests of arenas and of registers chosen anew.
+#![tactic(auto)]
+
+#[cfg(test)]
+mod arena;
+#[cfg(test)]
+mod recolor;

@@ -1,0 +1,206 @@
+//! Rows whose registers are chosen anew.
+
+use pc_machine::{Code, FEW_REGISTERS, Leaf, Tree, TreeList};
+use pc_recolor::recolor;
+use pc_word::{Item, LengthList, Limits, OpCode, Operand, OutOfMemory, RowTree, no_data};
+use std::alloc::{AllocError, Global};
+use std::test::Fail;
+
+/// The end of a row.
+#[derive(Clone, Copy)]
+enum End {
+    Goto(u32),
+    Stop,
+}
+
+/// A row of items and an end.
+fn row(alloc: Global, items: &[Item], end: End) -> Result<Tree, AllocError> {
+    let leaf = match end {
+        End::Goto(row) => Leaf::Goto { row },
+        End::Stop => Leaf::Stop,
+    };
+    let mut tree = RowTree::Leaf { leaf };
+    for item in items.iter().rev() {
+        let next = Box::new(alloc, tree)?;
+        tree = RowTree::Step { item: *item, next };
+    }
+    Ok(tree)
+}
+
+/// A code of limits 3, 2, 2 and one array.
+fn code(alloc: Global, rows: &[(&[Item], End)]) -> Result<Code, AllocError> {
+    let mut trees = TreeList::new(alloc);
+    for (items, end) in rows.iter() {
+        trees.push(row(alloc, items, *end)?)?;
+    }
+    Ok(Code {
+        limits: Limits {
+            ops: 3,
+            tests: 2,
+            mem: 2,
+        },
+        registers: FEW_REGISTERS as u16,
+        arrays: LengthList::from_slice(alloc, &[8])?,
+        initial: no_data(alloc, 1)?,
+        rows: trees,
+    })
+}
+
+/// The text of the rows of a code.
+fn text(alloc: Global, code: &Code) -> Result<String, AllocError> {
+    format!(in alloc; "{:?}", code.rows.as_slice())
+}
+
+/// Whether rows with registers chosen anew are these.
+fn gives(
+    alloc: Global,
+    rows: &[(&[Item], End)],
+    due: &[(&[Item], End)],
+) -> Result<bool, OutOfMemory> {
+    let made = recolor(alloc, code(alloc, rows)?)?;
+    let wanted = code(alloc, due)?;
+    Ok(text(alloc, &made)? == text(alloc, &wanted)?)
+}
+
+const SET_FOUR_TO_ONE: Item = Item::Copy {
+    dest: 4,
+    from: Operand::Lit(1),
+};
+
+const ADD_ONE_TO_FOUR_GIVING_FIVE: Item = Item::Bin {
+    op: OpCode::Add,
+    dest: 5,
+    left: Operand::Name(4),
+    right: Operand::Lit(1),
+};
+
+const PRINT_FOUR: Item = Item::Print {
+    value: Operand::Name(4),
+};
+
+const COPY_FIVE_TO_FOUR: Item = Item::Copy {
+    dest: 4,
+    from: Operand::Name(5),
+};
+
+const SET_ZERO_TO_ONE: Item = Item::Copy {
+    dest: 0,
+    from: Operand::Lit(1),
+};
+
+const ADD_ONE_TO_ZERO_GIVING_ZERO: Item = Item::Bin {
+    op: OpCode::Add,
+    dest: 0,
+    left: Operand::Name(0),
+    right: Operand::Lit(1),
+};
+
+const PRINT_ZERO: Item = Item::Print {
+    value: Operand::Name(0),
+};
+
+const SET_FIVE_TO_SEVEN: Item = Item::Copy {
+    dest: 5,
+    from: Operand::Lit(7),
+};
+
+const COPY_FIVE_TO_SIX: Item = Item::Copy {
+    dest: 6,
+    from: Operand::Name(5),
+};
+
+const ADD_ONE_TO_FIVE_GIVING_FIVE: Item = Item::Bin {
+    op: OpCode::Add,
+    dest: 5,
+    left: Operand::Name(5),
+    right: Operand::Lit(1),
+};
+
+const PRINT_SIX: Item = Item::Print {
+    value: Operand::Name(6),
+};
+
+const PRINT_FIVE: Item = Item::Print {
+    value: Operand::Name(5),
+};
+
+const SET_ZERO_TO_SEVEN: Item = Item::Copy {
+    dest: 0,
+    from: Operand::Lit(7),
+};
+
+const COPY_ZERO_TO_ONE: Item = Item::Copy {
+    dest: 1,
+    from: Operand::Name(0),
+};
+
+const PRINT_ONE: Item = Item::Print {
+    value: Operand::Name(1),
+};
+
+const SET_THREE_TO_NINE: Item = Item::Copy {
+    dest: 3,
+    from: Operand::Lit(9),
+};
+
+const STORE_TWO: Item = Item::Store {
+    array: 0,
+    index: Operand::Lit(0),
+    value: Operand::Name(2),
+};
+
+const STORE_ZERO: Item = Item::Store {
+    array: 0,
+    index: Operand::Lit(0),
+    value: Operand::Name(0),
+};
+
+const READ_FOUR: Item = Item::Read { dest: 4 };
+
+const READ_ZERO: Item = Item::Read { dest: 0 };
+
+/// Codes, and the rows that are due.
+static CODES: [(&[(&[Item], End)], &[(&[Item], End)]); 3] = [
+    // what a loop passes on stands where it is read, so the copy at its back edge goes
+    (
+        &[
+            (&[SET_FOUR_TO_ONE], End::Goto(1)),
+            (&[ADD_ONE_TO_FOUR_GIVING_FIVE, PRINT_FOUR], End::Goto(2)),
+            (&[COPY_FIVE_TO_FOUR], End::Goto(1)),
+        ],
+        &[
+            (&[SET_ZERO_TO_ONE], End::Goto(1)),
+            (&[ADD_ONE_TO_ZERO_GIVING_ZERO, PRINT_ZERO], End::Goto(2)),
+            (&[], End::Goto(1)),
+        ],
+    ),
+    // both values of a copy are needed together, so it stays
+    (
+        &[
+            (&[SET_FIVE_TO_SEVEN], End::Goto(1)),
+            (&[COPY_FIVE_TO_SIX], End::Goto(2)),
+            (&[ADD_ONE_TO_FIVE_GIVING_FIVE, PRINT_SIX], End::Goto(3)),
+            (&[PRINT_FIVE], End::Stop),
+        ],
+        &[
+            (&[SET_ZERO_TO_SEVEN], End::Goto(1)),
+            (&[COPY_ZERO_TO_ONE], End::Goto(2)),
+            (&[ADD_ONE_TO_ZERO_GIVING_ZERO, PRINT_ONE], End::Goto(3)),
+            (&[PRINT_ZERO], End::Stop),
+        ],
+    ),
+    // a value that nothing needs goes, and stores and reads stay
+    (
+        &[(&[SET_THREE_TO_NINE, STORE_TWO, READ_FOUR], End::Stop)],
+        &[(&[STORE_ZERO, READ_ZERO], End::Stop)],
+    ),
+];
+
+/// Registers are chosen anew as is due.
+#[test]
+fn registers_are_chosen_anew(rt: HostRuntime) -> Result<(), Fail> {
+    for (rows, due) in CODES.iter() {
+        assert!(&rt; gives(rt.alloc(), rows, due) == Ok(true));
+    }
+    Ok(())
+}

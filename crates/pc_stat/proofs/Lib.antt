@@ -1,0 +1,2 @@
+pub mod RankedRows
+pub mod Costs

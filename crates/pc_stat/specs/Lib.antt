@@ -1,0 +1,3 @@
+pub mod Busiest
+pub mod Summary
+pub mod Laws
