@@ -108,7 +108,8 @@ is_laid {d2 = d2} {laid = laid} last ends body is stop l begins e =
     }
 
 -- what was laid is the flow graph of the program
-pub is_lowered : (program : ResolvedProgram) (old new : Draft) (entry : ℕ) (flow : FlowGraph) → IsLaid old new program.body entry → old.graph.arrays ≡ program.arrays → old.graph.initial ≡ program.initial
+pub is_lowered : (program : ResolvedProgram) (old new : Draft) (entry : ℕ) (flow : FlowGraph) → IsLaid old new program.body entry →
+    old.graph.arrays ≡ program.arrays → old.graph.initial ≡ program.initial
     → length old.graph.nodes ≡ resolved_size program → resolved_size program ≤ most_nodes → source_loops old.graph.loops ≡ loops_of program
     → flow ≡ record new.graph { entry = entry } → TestsInside flow → EachTested new.graph → IsLowered program flow
 is_lowered program old new entry flow laid same same_data count few marked e tests each =

@@ -172,7 +172,8 @@ module _ (tokens : List Token) where
         let is = declaration-key tokens 0 Static p trees i q d in
         cond-no _ _ _ (ap (is_key keys.Int) is) ∙ cond-yes _ _ _ (is_key-of keys.Static (kind_at tokens p) is) ∙ finds-static tokens (b - 1) p trees i q d fits
 
-    declares-item : (storage : Storage) (n p : ℕ) (trees rest : SourceList) (i q j to : ℕ) → ReadsDeclaration tokens storage p trees i q → i ≤ b - 1 → items_at tokens (statement_below tokens b) b n q ≡ Parsed rest j to →
+    declares-item : (storage : Storage) (n p : ℕ) (trees rest : SourceList) (i q j to : ℕ) → ReadsDeclaration tokens storage p trees i q → i ≤ b - 1 →
+        items_at tokens (statement_below tokens b) b n q ≡ Parsed rest j to →
         items_at tokens (statement_below tokens b) b (suc n) p ≡ Parsed (appended trees rest) (max i j) to
     unfolding items_at
     declares-item storage n p trees rest i q j to d fits found =

@@ -273,7 +273,8 @@ module _ (tokens : List Token) where
             let is = symbol-is (kind_at tokens p) symbol found in
             let here = inside tokens p _ is in
             on_mark-good tokens (b - 1 + p) marks.Assign (p + 1) (IsDeclarator Automatic b p) _ _ (λ assign below'. initialised-holds symbol p is assign) (λ no'.
-            on_mark-good tokens (b - 1 + p) marks.LeftBracket (p + 1) (IsDeclarator Automatic b p) _ _ (λ open' below'. array-holds b symbol p (length_of (kind_at tokens (p + 2))) some is open' refl) (λ no''.
+            on_mark-good tokens (b - 1 + p) marks.LeftBracket (p + 1) (IsDeclarator Automatic b p) _ _
+            (λ open' below'. array-holds b symbol p (length_of (kind_at tokens (p + 2))) some is open' refl) (λ no''.
             record { reads = ReadsDeclarator.scalar is; low = some; within = omega arith; onward = omega arith }))
         by None found = within
 

@@ -16,7 +16,8 @@ use Rattle.pc_parser.specs.models.Tests.{is_key, mark_is, key_is}
 use Rattle.pc_parser.specs.Statements.{ends_open, ReadsSimple, ReadsStatement, ReadsItems, ReadsProgram}
 use Rattle.pc_parser.specs.models.Outcome.{ParseOutcome, Parsed, Unreadable, TooHigh, after}
 use Rattle.pc_parser.specs.models.ExpressionParser.{expression_at}
-use Rattle.pc_parser.specs.models.StatementParser.{parenthesized_at, ended_at, declaration_at, static_at, first_at, condition_at, step_at, item_at, items_at, block_at, otherwise_at, branch_at, while_at, do_at}
+use Rattle.pc_parser.specs.models.StatementParser.{parenthesized_at, ended_at, declaration_at, static_at, first_at, condition_at, step_at}
+use Rattle.pc_parser.specs.models.StatementParser.{item_at, items_at, block_at, otherwise_at, branch_at, while_at, do_at}
 use Rattle.pc_parser.specs.models.StatementParser.{for_body, for_at, lone, return_at, keyed, started, statement_on, statement_from, statement_at, statement_below, nothing_behind, main_block}
 use Rattle.pc_parser.specs.models.StatementParser.{program_at}
 use Rattle.pc_parser.proofs.Tokens.{is_key-of, mark_is-true, key_is-true}
@@ -81,7 +82,8 @@ module _ (tokens : List Token) where
         on_key-good tokens (b - 1 - 1 + p) keys.Static p (IsItem (b - 1) p) _ _ (λ static below'. weaker Static (static_at tokens (b - 1) p) (static_at-holds tokens (b - 1) p static)) (λ no''.
         after-good (length tokens) (b - 1 - 1 + p) (b - 1 - 1 + p) (IsStatement (b - 1) p) (IsItem (b - 1) p) (inner p) _ (omega arith) (holds p within) (λ s h q good. IsItem.stated good)))
       where
-        weaker : (storage : Storage) (o : ParseOutcome SourceList) → Good (length tokens) (b - 1 - 1 + p) (IsDeclaration tokens storage (b - 1) p) o → Good (length tokens) (b - 1 - 1 + p) (IsItem (b - 1) p) o
+        weaker : (storage : Storage) (o : ParseOutcome SourceList) →
+            Good (length tokens) (b - 1 - 1 + p) (IsDeclaration tokens storage (b - 1) p) o → Good (length tokens) (b - 1 - 1 + p) (IsItem (b - 1) p) o
         weaker storage (Parsed t h q) good = IsItem.declared good
         weaker storage (Unreadable at) good = good
         weaker storage (TooHigh at) good = good

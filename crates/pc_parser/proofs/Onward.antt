@@ -9,7 +9,8 @@ use Rattle.pc_parser.specs.declared.storage.Storage.{Storage}
 use Rattle.pc_parser.specs.declared.storage.Storage.TheVariants.{Automatic}
 use Rattle.pc_parser.specs.Places.{kind_at}
 use Rattle.pc_parser.specs.Expressions.{ReadsExpression, ReadsLevel, ReadsUnary, ReadsPrimary}
-use Rattle.pc_parser.specs.Statements.{Target, ReadsTarget, ReadsTest, ReadsSimple, ReadsConstant, ReadsConstants, ReadsDeclarator, ReadsDeclarators, ReadsDeclaration, ReadsFirst, ReadsCondition, ReadsStep}
+use Rattle.pc_parser.specs.Statements.{Target, ReadsTarget, ReadsTest, ReadsSimple, ReadsConstant, ReadsConstants, ReadsDeclarator}
+use Rattle.pc_parser.specs.Statements.{ReadsDeclarators, ReadsDeclaration, ReadsFirst, ReadsCondition, ReadsStep}
 use Rattle.pc_parser.specs.Statements.{ReadsStatement, ReadsItems}
 
 -- where there is a token, there is a place

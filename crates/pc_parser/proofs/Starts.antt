@@ -131,8 +131,10 @@ begins-sign mark sign is = cc
 
 begins-step : (mark : Mark) (op : BinaryOp) → step_of mark ≡ Some op → BeginsSimple (Some (kinds.Mark mark))
 unfolding statement_on started step_of
-begins-step marks.PlusPlus op is = record { begins = record { else_not = refl; int_not = refl; static_not = refl; brace_not = refl }; semicolon_not = refl; paren_not = refl; ended = λ tokens inner budget from. refl }
-begins-step marks.MinusMinus op is = record { begins = record { else_not = refl; int_not = refl; static_not = refl; brace_not = refl }; semicolon_not = refl; paren_not = refl; ended = λ tokens inner budget from. refl }
+begins-step marks.PlusPlus op is =
+    record { begins = record { else_not = refl; int_not = refl; static_not = refl; brace_not = refl }; semicolon_not = refl; paren_not = refl; ended = λ tokens inner budget from. refl }
+begins-step marks.MinusMinus op is =
+    record { begins = record { else_not = refl; int_not = refl; static_not = refl; brace_not = refl }; semicolon_not = refl; paren_not = refl; ended = λ tokens inner budget from. refl }
 begins-step mark op is = cc
 
 begins-print : BeginsSimple (Some (kinds.Key keys.Print))

@@ -52,8 +52,10 @@ between_ends (pos n) l h = record { sfits = omega (arith, ints) }
 between_ends (negsuc n) l h = record { sfits = omega (arith, ints) }
 
 pub word_fits : (z : ℤ) → FitsSigned w32 z → (int_le least z && int_le z greatest) ≡ true
-word_fits (pos n) fits = let f = fits.sfits in let l : least ≤ℤ pos n = omega (arith, ints) in let h : pos n ≤ℤ greatest = omega (arith, ints) in rw (of_le least (pos n) l, of_le (pos n) greatest h) refl
-word_fits (negsuc n) fits = let f = fits.sfits in let l : least ≤ℤ negsuc n = omega (arith, ints) in let h : negsuc n ≤ℤ greatest = omega (arith, ints) in rw (of_le least (negsuc n) l, of_le (negsuc n) greatest h) refl
+word_fits (pos n) fits = let f = fits.sfits in let l : least ≤ℤ pos n = omega (arith, ints) in
+    let h : pos n ≤ℤ greatest = omega (arith, ints) in rw (of_le least (pos n) l, of_le (pos n) greatest h) refl
+word_fits (negsuc n) fits = let f = fits.sfits in let l : least ≤ℤ negsuc n = omega (arith, ints) in
+    let h : negsuc n ≤ℤ greatest = omega (arith, ints) in rw (of_le least (negsuc n) l, of_le (negsuc n) greatest h) refl
 
 -- every number lies in all words
 pub in_all : (z : ℤ) → LiesIn all_words z

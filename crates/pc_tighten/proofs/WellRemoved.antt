@@ -120,7 +120,8 @@ module _ (code : RowCode) (well : WellFormed code) (t u : ℕ) (may : IsGotoAlon
         omega arith);
     rows = subst (λ (n : ℕ). AllByRecursion (IsRow code.limits code.registers (length code.arrays) n) (removed code t u).rows) (sym same_length)
         (map_of_all (IsRow code.limits code.registers (length code.arrays) left) (sent_row t u) (without_row t code.rows)
-        (all_imply (IsRow code.limits code.registers (length code.arrays) (suc left)) (λ row. IsRow code.limits code.registers (length code.arrays) left (sent_row t u row)) (without_row t code.rows) is_sent
+        (all_imply (IsRow code.limits code.registers (length code.arrays) (suc left))
+        (λ row. IsRow code.limits code.registers (length code.arrays) left (sent_row t u row)) (without_row t code.rows) is_sent
         (without-all (IsRow code.limits code.registers (length code.arrays) (suc left)) t code.rows
         (subst (λ (n : ℕ). AllByRecursion (IsRow code.limits code.registers (length code.arrays) n) code.rows) one_less well.rows))));
   }

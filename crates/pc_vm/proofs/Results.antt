@@ -68,7 +68,8 @@ row-faults row held plan left fault is is_left faults =
     ap (λ (f : Option MachineFault). commit_of (lengths_of held.cells) (state_of held) items leaf f) same
 
 -- the state once a plan is done is that after the path
-pub done-state : (old new : Contents) (items : List Item) (plan : Planned) → length old.registers ≡ most_registers → AllByRecursion (IsItem most_registers (length old.cells)) items → count_by is_effect items ≤ 1
+pub done-state : (old new : Contents) (items : List Item) (plan : Planned) →
+    length old.registers ≡ most_registers → AllByRecursion (IsItem most_registers (length old.cells)) items → count_by is_effect items ≤ 1
     → plan ≡ plan_of (lengths_of old.cells) (state_of old) items
     → new.registers ≡ written plan.writes old.registers → new.cells ≡ stored plan.stores old.cells → new.input ≡ (if plan.reads then drop 1 old.input else old.input)
     → state_of new ≡ state_after (lengths_of old.cells) (state_of old) items
@@ -93,7 +94,8 @@ done-state old new items plan many all few is registers cells input =
 
 -- a row whose plan has none is done
 pub row-commits : (row : CodeRow) (old new : Contents) (plan : Planned) (left : Bool) (printed : Option ℤ) (leaf : Leaf)
-    → length old.registers ≡ most_registers → AllByRecursion (IsItem most_registers (length old.cells)) (path_of (names_of old.registers) row) → count_by is_effect (path_of (names_of old.registers) row) ≤ 1
+    → length old.registers ≡ most_registers → AllByRecursion (IsItem most_registers (length old.cells)) (path_of (names_of old.registers) row) →
+    count_by is_effect (path_of (names_of old.registers) row) ≤ 1
     → plan ≡ plan_of (lengths_of old.cells) (state_of old) (path_of (names_of old.registers) row) → left ≡ some_left old.input → None ≡ planned_fault plan left
     → leaf ≡ leaf_of (names_of old.registers) row → printed ≡ plan.printed
     → new.registers ≡ written plan.writes old.registers → new.cells ≡ stored plan.stores old.cells → new.input ≡ (if plan.reads then drop 1 old.input else old.input)

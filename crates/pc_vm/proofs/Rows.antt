@@ -75,7 +75,8 @@ code-runnable code i row well at =
     let is = all_at (IsRow code.limits code.registers (length code.arrays) (length code.rows)) code.rows i row well.rows at in
     let few = registers-most code.registers well.registers in
     runnable (length code.arrays) row
-    (all_imply (IsItem code.registers (length code.arrays)) (IsItem most_registers (length code.arrays)) (items_of row) (λ item is. item_there code.registers (length code.arrays) item few is) is.items)
+    (all_imply (IsItem code.registers (length code.arrays)) (IsItem most_registers (length code.arrays)) (items_of row)
+    (λ item is. item_there code.registers (length code.arrays) item few is) is.items)
     (all_imply (IsOperand code.registers) (IsOperand most_registers) (tests_of row) (λ on is. operand_there code.registers on few is) is.operands)
 
 pub code-short : (code : RowCode) (i : ℕ) (row : CodeRow) → WellFormed code → slice_get code.rows i ≡ Some row → longest row ≤ most_ops

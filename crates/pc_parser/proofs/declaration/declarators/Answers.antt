@@ -22,7 +22,8 @@ loop-alloc-init c =
     record {
       turns = length tokens;
       enough = omega arith;
-      same = declarators-init tokens c.args.budget c.args.storage (list_of c.args.items) (list_of c.push.new.self) c.args.place (statement_of first.tree) first.height first.next c.in_ok-first.ensures.gives
+      same = declarators-init tokens c.args.budget c.args.storage (list_of c.args.items) (list_of c.push.new.self) c.args.place
+          (statement_of first.tree) first.height first.next c.in_ok-first.ensures.gives
           (ap list_of c.in_ok-push.ensures.ok ∙ list_of-push c.args.items first.tree);
       low = ends.low;
       inside = ends.inside;
