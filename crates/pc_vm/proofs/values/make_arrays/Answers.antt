@@ -14,7 +14,7 @@ loop-place-preserved c =
     c.in_ok-push.ensures.items
     ∙ ap (λ (arrays : List (List ℤ)). arrays ++ c.in_ok-make_array.field-0 ∷ []) c.loop-place.invariant
     ∙ ap (λ (array : List ℤ). new_arrays (take c.loop-place.place c.args.lengths.now) (take c.loop-place.place c.args.lists.now) ++ array ∷ [])
-        (c.in_ok-make_array.ensures ∙ ap (λ (words : List ℤ). new_array (get_or c.args.lengths.now c.loop-place.place 0) words) c.words_of-words.ensures)
+    (c.in_ok-make_array.ensures ∙ ap (λ (words : List ℤ). new_array (get_or c.args.lengths.now c.loop-place.place 0) words) c.words_of-words.ensures)
     ∙ arrays_with c.args.lengths.now c.args.lists.now c.loop-place.place c.requires c.loop-place-test.true
 
 pub returns : goal.returns
