@@ -4,7 +4,6 @@ use crate::graphs::example;
 use pc_live::live;
 use pc_regions::{law_of_one_cut, laws_of_cut_runs, regions};
 use pc_table::{Region, RegionTree, laws_of_regions};
-use std::alloc::Global;
 use std::test::Fail;
 
 /// What stands in a tree, in preorder, the yes side first.
@@ -53,12 +52,20 @@ const CUT: [Cut; 2] = [
     },
 ];
 
-/// Appends the parts of a tree to others.
-fn list_parts(tree: &RegionTree, parts: &mut Vec<Part>) -> Result<(), Fail> {
+/// What is left of some parts after this one, if it is the first of them.
+fn after(parts: &'static [Part], part: Part) -> Option<&'static [Part]> {
+    match parts.split_first() {
+        Some((first, rest)) if *first == part => Some(rest),
+        _ => None,
+    }
+}
+
+/// What is left of some parts after those of a tree, if these are the first of them.
+fn after_tree(parts: &'static [Part], tree: &RegionTree) -> Option<&'static [Part]> {
     match tree {
         RegionTree::Step { origin, next, .. } => {
-            parts.push(Part::Node(*origin))?;
-            list_parts(next, parts)
+            let below = after(parts, Part::Node(*origin))?;
+            after_tree(below, next)
         }
         RegionTree::Test {
             origin,
@@ -66,26 +73,25 @@ fn list_parts(tree: &RegionTree, parts: &mut Vec<Part>) -> Result<(), Fail> {
             no,
             ..
         } => {
-            parts.push(Part::Node(*origin))?;
-            list_parts(yes, parts)?;
-            list_parts(no, parts)
+            let below = after(parts, Part::Node(*origin))?;
+            let other = after_tree(below, yes)?;
+            after_tree(other, no)
         }
-        RegionTree::Next { region } => Ok(parts.push(Part::Next(*region))?),
-        RegionTree::Stop | RegionTree::Trap { .. } => Ok(parts.push(Part::End)?),
+        RegionTree::Next { region } => after(parts, Part::Next(*region)),
+        RegionTree::Stop | RegionTree::Trap { .. } => after(parts, Part::End),
     }
 }
 
 /// Whether a region is as it was cut by hand.
-fn is_cut(alloc: Global, region: &Region, cut: &Cut) -> Result<bool, Fail> {
-    let mut parts = Vec::new(alloc);
-    list_parts(&region.tree, &mut parts)?;
-    Ok(
-        region.head == cut.head
-            && parts.as_slice() == cut.parts
-            && region.live.as_slice() == cut.live
-            && region.inside == cut.inside
-            && region.heads == cut.heads,
-    )
+fn is_cut(region: &Region, cut: &Cut) -> bool {
+    let Some(rest) = after_tree(cut.parts, &region.tree) else {
+        return false;
+    };
+    rest.is_empty()
+        && region.head == cut.head
+        && region.live.as_slice() == cut.live
+        && region.inside == cut.inside
+        && region.heads == cut.heads
 }
 
 #[test]
@@ -95,8 +101,7 @@ fn a_loop_is_cut_at_its_header(rt: HostRuntime) -> Result<(), Fail> {
     let table = regions(rt.alloc(), &flow, &liveness)?;
     assert_eq!(rt; table.regions.len(), CUT.len());
     for (region, cut) in table.regions.as_slice().iter().zip(CUT.iter()) {
-        let as_cut = is_cut(rt.alloc(), region, cut)?;
-        assert!(rt; as_cut);
+        assert!(rt; is_cut(region, cut));
     }
     assert_eq!(rt; table.loops.len(), 1);
     assert!(rt; table.arrays.is_empty());
