@@ -1,11 +1,13 @@
 //! The machine: a code, what it holds, and the row that comes next.
 ghost use Rattle.std.specs.Prelude.{◌≡◌, ◌≤◌, true, false, length, Some, IfOk, OnOk, OnErr, IfSome, option_to_list};
 ghost use Rattle.std.specs.Io.KnownBytes.{Appends};
+ghost use Rattle.pc_word.specs.Items.{operand_value, value_of};
 ghost use Rattle.pc_word.specs.NumberText.{text_of};
 ghost use Rattle.pc_word.specs.Run.{run_from, reach};
 ghost use Rattle.pc_machine.specs.MachineCode.{code_of};
 ghost use Rattle.pc_machine.specs.MachineRun.{machine_step, machine_start};
-ghost use Rattle.pc_machine.specs.WellFormed.{IsLeaf, WellFormed};
+ghost use Rattle.pc_machine.specs.Registers.{most_registers};
+ghost use Rattle.pc_machine.specs.WellFormed.{IsItem, IsLeaf, IsOperand, WellFormed};
 ghost use Rattle.pc_word.specs.Count.{Rose};
 ghost use Rattle.pc_outside.specs.Stream.{AppendsPart};
 ghost use Rattle.pc_vm.specs.Exits.{IsExit};
@@ -19,7 +21,7 @@ use crate::row::{RowResult, run_row};
 use crate::values::Values;
 use pc_machine::{Code, Leaf};
 use pc_outside::{Failed, Sink, send};
-use pc_word::{End, NumberLine, WordList};
+use pc_word::{End, Item, NumberLine, Operand, WordList};
 use std::alloc::Global;
 use std::marker::Model;
 
@@ -104,6 +106,22 @@ impl Machine {
             row: self.row as usize,
             leaf: exit_number(tree, &self.values),
         }
+    }
+
+    /// The value that an operand has as the next cycle begins.
+    pub fn operand(&self, operand: &Operand) -> i32
+        requires { IsOperand most_registers operand.now }
+        ensures { result ≡ operand_value (here_of self.now).state.names operand.now }
+    {
+        self.values.operand(operand)
+    }
+
+    /// The word that an item writes, stores or prints if the next cycle does it.
+    pub fn value(&self, item: &Item) -> i32
+        requires { IsItem most_registers (length self.now.code.arrays) item.now }
+        ensures { result ≡ value_of self.now.code.arrays (here_of self.now).state item.now }
+    {
+        self.values.value(item)
     }
 
     /// Runs one row: one step of the code. It takes no memory.
