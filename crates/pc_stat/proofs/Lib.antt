@@ -1,2 +1,3 @@
 pub mod RankedRows
 pub mod Costs
+pub mod Floats

@@ -1,3 +1,4 @@
 pub mod Busiest
 pub mod Summary
+pub mod Json
 pub mod Laws

@@ -59,14 +59,14 @@ fn push_end(text: &mut String, outcome: Outcome) -> Result<(), AllocError>
     ensures { OnOk result (string_bytes text.new ≡ string_bytes text.old ++ end_words (end_of outcome)) }
 {
     match outcome {
-        Outcome::Over { end } => push_last(text, end),
+        Outcome::Over { end } => push_end_words(text, end),
         Outcome::Going => text.push_str("budget of cycles spent"),
     }
 }
 
-/// Appends how a run ended to a text.
+/// Appends how a run ended to a text: `stop`, a trap with its kind and line, or a fault by its name.
 #[tactic(auto, unfolding(crate::specs::Summary::last_words))]
-fn push_last(text: &mut String, end: End) -> Result<(), AllocError>
+pub fn push_end_words(text: &mut String, end: End) -> Result<(), AllocError>
     ensures { OnOk result (string_bytes text.new ≡ string_bytes text.old ++ last_words end) }
 {
     match end {
