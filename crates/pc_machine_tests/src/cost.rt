@@ -4,7 +4,7 @@ use crate::count::{fault_rows, sum_rows};
 use crate::vm::code_of;
 use pc_count::run_profile;
 use pc_machine::{TreeList, well_formed};
-use pc_stat::{busiest, laws_of_busiest_rows, summary_text};
+use pc_stat::{busiest, json_text, laws_of_busiest_rows, summary_text};
 use pc_vm::Machine;
 use pc_word::{MOST_CYCLES, WordList};
 use std::alloc::Global;
@@ -37,13 +37,24 @@ rows that ran: 2 of 3\n\
 row 0 ran: 1; 50.00 %\n\
 row 1 ran: 1; 50.00 %\n";
 
-/// Whether the cost of a run of rows on an input is told so.
+const SUM_JSON: &str = "\
+{\"copy_cycles\":0,\"cycles\":8,\"end\":{\"kind\":\"stop\"},\"items\":11,\
+\"limits\":{\"items\":8,\"loads_and_stores\":4,\"tests\":4},\"loads_and_stores\":0,\"prints\":1,\"reads\":3,\
+\"rows\":[{\"cycles\":1,\"leaves\":[1]},{\"cycles\":4,\"leaves\":[3,1]},{\"cycles\":3,\"leaves\":[3]}],\"tests\":4}\n";
+
+const FAULT_JSON: &str = "\
+{\"copy_cycles\":1,\"cycles\":2,\"end\":{\"fault\":\"element stored twice\",\"kind\":\"fault\"},\"items\":1,\
+\"limits\":{\"items\":8,\"loads_and_stores\":4,\"tests\":4},\"loads_and_stores\":0,\"prints\":0,\"reads\":0,\
+\"rows\":[{\"cycles\":1,\"leaves\":[1]},{\"cycles\":1,\"leaves\":[0]},{\"cycles\":0,\"leaves\":[0]}],\"tests\":0}\n";
+
+/// Whether the cost of a run of rows on an input is told so, to readers and to programs.
 fn tells(
     alloc: Global,
     rows: TreeList,
     inputs: &[i32],
     budget: u64,
-    want: &str,
+    summary: &str,
+    json: &str,
 ) -> Result<bool, Fail> {
     let code = code_of(alloc, rows)?;
     let inputs = WordList::from_slice(alloc, inputs)?;
@@ -54,8 +65,10 @@ fn tells(
         None => {
             let mut machine = Machine::new(alloc, code, inputs)?;
             let profile = run_profile(alloc, &mut machine, budget)?;
-            let text = summary_text(alloc, &machine.into_code(), &profile)?;
-            Ok(text.as_slice() == want.as_bytes())
+            let code = machine.into_code();
+            let told = summary_text(alloc, &code, &profile)?;
+            let written = json_text(alloc, &code, &profile)?;
+            Ok(told.as_slice() == summary.as_bytes() && written.as_slice() == json.as_bytes())
         }
         Some(_) => Ok(false),
     }
@@ -64,8 +77,8 @@ fn tells(
 #[test]
 fn costs_are_told(rt: HostRuntime) -> Result<(), Fail> {
     let alloc = rt.alloc();
-    assert!(rt; tells(alloc, sum_rows(alloc)?, &[4, 8, -6], 1000, SUM)?);
-    assert!(rt; tells(alloc, fault_rows(alloc)?, &[], 1000, FAULT)?);
+    assert!(rt; tells(alloc, sum_rows(alloc)?, &[4, 8, -6], 1000, SUM, SUM_JSON)?);
+    assert!(rt; tells(alloc, fault_rows(alloc)?, &[], 1000, FAULT, FAULT_JSON)?);
     Ok(())
 }
 

@@ -10,4 +10,6 @@ mod machine;
 #[cfg(test)]
 mod object;
 #[cfg(test)]
+mod trace;
+#[cfg(test)]
 mod vm;
