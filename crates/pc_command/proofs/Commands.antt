@@ -4,9 +4,9 @@ use Rattle.std.specs.Prelude.{Option, Some, None, Ok, ok_or, option_and_then, op
 use Rattle.clap.specs.Walk.{Text}
 use Rattle.pc_word.specs.Exact.{IsExact, IsRefusal}
 use Rattle.pc_command.specs.Matching.{Matches}
-use Rattle.pc_command.specs.Arguments.{compile_app, matches_taken, simulate_app, view_app}
+use Rattle.pc_command.specs.Arguments.{compile_app, matches_taken, simulate_app, stat_app, view_app}
 use Rattle.pc_command.specs.Requests.{command_cause, compile_command_of, compile_request_in}
-use Rattle.pc_command.specs.Requests.{simulate_command_of, simulate_request_in, view_command_of, view_request_in}
+use Rattle.pc_command.specs.Requests.{simulate_command_of, simulate_request_in, stat_command_of, stat_request_in, view_command_of, view_request_in}
 use Rattle.pc_command.specs.declared.error.CommandError.{CommandError}
 use Rattle.pc_command.specs.declared.error.CommandError.TheVariants.{NoCommand, Memory}
 
@@ -57,7 +57,7 @@ pub simulate-taken : (words : List Text) (matches : Matches) → ok_or (matches_
 unfolding simulate_command_of
 simulate-taken words matches taken = rw (there _ matches taken) refl
 
--- and of the viewer
+-- of the viewer
 pub view-refused : (error : CommandError) (words : List Text) → IsRefusal (command_cause error) (ok_or (matches_taken view_app words) NoCommand)
     → IsRefusal (command_cause error) (ok_or (view_command_of words) NoCommand)
 unfolding view_command_of
@@ -67,3 +67,14 @@ pub view-taken : (words : List Text) (matches : Matches) → ok_or (matches_take
     → view_command_of words ≡ Some (view_request_in matches)
 unfolding view_command_of
 view-taken words matches taken = rw (there _ matches taken) refl
+
+-- and of the profiler
+pub stat-refused : (error : CommandError) (words : List Text) → IsRefusal (command_cause error) (ok_or (matches_taken stat_app words) NoCommand)
+    → IsRefusal (command_cause error) (ok_or (stat_command_of words) NoCommand)
+unfolding stat_command_of
+stat-refused error words h = refused_on error (matches_taken stat_app words) stat_request_in h
+
+pub stat-taken : (words : List Text) (matches : Matches) → ok_or (matches_taken stat_app words) NoCommand ≡ Ok matches
+    → stat_command_of words ≡ stat_request_in matches
+unfolding stat_command_of
+stat-taken words matches taken = rw (there _ matches taken) refl

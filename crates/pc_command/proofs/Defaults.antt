@@ -1,13 +1,13 @@
 -- After the defaults of `clap` are put in, each argument that has some has a row among the matches, and each row is one of its argument.
 use Rattle.std.proofs.Common.{◌≡◌, ◌||◌, Bool, cond, true, false, List, [], ◌∷◌, length, refl, fold, arith}
-use Rattle.std.specs.Prelude.{Option, Some, None, find, nat_lt, bytes_eq}
+use Rattle.std.specs.Prelude.{Option, Some, None, find, nat_lt, bytes_eq, option_and_then}
 use Rattle.std.specs.List.{AllByRecursion, list_any}
 use Rattle.std.specs.Option.{IsSome, option_map_or}
 use Rattle.std.proofs.lemmas.Slice.Eq.{bytes_eq-Decides}
 use Rattle.clap.specs.Facts.{explicit_source}
 use Rattle.clap.specs.Faults.{values_fault}
 use Rattle.clap.specs.Takes.{is_given}
-use Rattle.clap.specs.Walk.{Row, Rule, Text, arg_by_id, default_rows, has_row, reading_by, with_default, with_values}
+use Rattle.clap.specs.Walk.{Row, Rule, Text, arg_by_id, default_rows, has_row, one_of, reading_by, row_text, with_default, with_values}
 use Rattle.clap.specs.declared.builder.value_parser.Reading.{Reading}
 use Rattle.clap.specs.declared.parser.matches.ValueSource.{ValueSource}
 use Rattle.clap.specs.declared.parser.matches.ValueSource.TheVariants.{DefaultValue}
@@ -140,5 +140,14 @@ pub row_given : (rules : List Rule) (a : Rule) (rows : List Row) → arg_by_id r
 row_given rules a rows first all given = row_of_found rules a rows first all _ refl (some (find (λ r. bytes_eq r.id a.id) rows) given)
   where
     some : (o : Option Row) → option_map_or (λ r. explicit_source r.source) o false ≡ true → IsSome o
+    some None h = absurd (cc)
+    some (Some row) h = refl
+
+-- an argument of which a text is read
+pub row_read : (rules : List Rule) (a : Rule) (rows : List Row) → arg_by_id rules a.id ≡ Some a → AllByRecursion (Holds rules) rows
+    → IsSome (one_of a.id rows) → HasRow a rows
+row_read rules a rows first all read = row_of_found rules a rows first all _ refl (some (find (λ r. bytes_eq r.id a.id) rows) read)
+  where
+    some : (o : Option Row) → IsSome (option_and_then row_text o) → IsSome o
     some None h = absurd (cc)
     some (Some row) h = refl

@@ -6,7 +6,8 @@ use Rattle.pc_command.specs.Arguments.{flag_in, matches_taken, word_in}
 use Rattle.pc_command.specs.Laws.{plain_request}
 use Rattle.pc_command.specs.Options.{number_in}
 use Rattle.pc_command.specs.Requests.{CompileRequest, OfFile, OfSample, SourcePlace, behind_at, compile_command_of, compile_request_in, source_place_of, simulate_command_of, simulate_request_in}
-use Rattle.pc_command.specs.Requests.{view_command_of, view_request_in}
+use Rattle.pc_command.specs.Requests.{stat_command_of, stat_request_in, view_command_of, view_request_in}
+use Rattle.pc_command.specs.declared.stat.StatMode.TheVariants as mode
 use Rattle.pc_command.proofs.Programs.{argument_tables}
 
 -- what is asked of the compiler with the defaults
@@ -15,7 +16,7 @@ plain source = plain_request source (codes "y")
 
 -- what is opened to compute them
 unfoldable requests : Unit {0}
-unfolding compile_command_of compile_request_in simulate_command_of simulate_request_in view_command_of view_request_in source_place_of behind_at
+unfolding compile_command_of compile_request_in simulate_command_of simulate_request_in view_command_of view_request_in stat_command_of stat_request_in source_place_of behind_at
 requests = tt
 
 unfoldable commands : Unit {0}
@@ -124,3 +125,25 @@ dot-given = refl
 dot-twice : view_command_of (codes "y" ∷ (codes "--dot" ∷ (codes "--dot" ∷ []))) ≡ None
 unfolding commands
 dot-twice = refl
+
+-- the profiler's
+trace-given : stat_command_of (codes "y" ∷ (codes "--trace" ∷ (codes "+05" ∷ (codes "--cycles=9" ∷ []))))
+    ≡ Some (record { object = codes "y"; cycles = 9; mode = mode.Trace 5 })
+unfolding commands
+trace-given = refl
+
+json-given : stat_command_of (codes "--json" ∷ (codes "y" ∷ [])) ≡ Some (record { object = codes "y"; cycles = 100000000; mode = mode.Json })
+unfolding commands
+json-given = refl
+
+trace-below : stat_command_of (codes "y" ∷ (codes "--trace" ∷ (codes "0" ∷ []))) ≡ None
+unfolding commands
+trace-below = refl
+
+modes-twice : stat_command_of (codes "y" ∷ (codes "--rows" ∷ (codes "--dot" ∷ []))) ≡ None
+unfolding commands
+modes-twice = refl
+
+trace-and-rows : stat_command_of (codes "--rows" ∷ (codes "y" ∷ (codes "--trace=5" ∷ []))) ≡ None
+unfolding commands
+trace-and-rows = refl

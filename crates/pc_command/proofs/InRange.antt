@@ -1,17 +1,21 @@
 -- Commands are in range.
-use Rattle.std.proofs.Common.{◌≡◌, ◌^◌, ◌<◌, ℕ, Bool, true, false, List, refl, ap, subst}
+use Rattle.std.proofs.Common.{◌≡◌, ◌^◌, ◌<◌, ℕ, Bool, true, false, List, refl, ◌∙◌, ap, subst}
 use Rattle.std.specs.Prelude.{Option, Some, None, codes, nat_lt, option_and_then, option_map, unwrap_or}
 use Rattle.std.specs.Str.Parse.{digits_value}
 use Rattle.std.proofs.lemmas.Bool.{ltb-true}
 use Rattle.pc_word.specs.NumberText.{is_numeral}
 use Rattle.pc_command.specs.Matching.{Matches}
-use Rattle.pc_command.specs.Arguments.{compile_app, flag_in, matches_taken, simulate_app, word_in}
-use Rattle.pc_command.specs.Laws.{CompileCommandsAreInRange, IsInRange, IsSourcePlace, SimulateCommandsAreInRange}
+use Rattle.pc_command.specs.Arguments.{compile_app, flag_in, matches_taken, simulate_app, stat_app, word_in}
+use Rattle.pc_command.specs.Laws.{CompileCommandsAreInRange, IsInRange, IsSourcePlace, IsStatInRange, SimulateCommandsAreInRange, StatCommandsAreInRange}
 use Rattle.pc_word.specs.Ranges.{AreCycles}
 use Rattle.pc_command.specs.Requests.{CompileRequest, OfFile, OfSample, SourcePlace, SimulateRequest, compile_command_of, compile_request_in}
 use Rattle.pc_command.specs.Requests.{behind_at, extent_in, limits_in, source_place_behind, source_place_of, sample_number_of, simulate_command_of, simulate_request_in}
+use Rattle.pc_command.specs.Options.{cycles_option, number_found, number_in, trace_option}
+use Rattle.pc_command.specs.Requests.{StatRequest, mode_in, mode_of, stat_command_of, stat_request_in}
+use Rattle.pc_command.specs.declared.stat.StatMode.{StatMode}
+use Rattle.pc_command.specs.declared.stat.StatMode.TheVariants as mode
 use Rattle.pc_command.proofs.Sources.{behind_at-is_none}
-use Rattle.pc_command.proofs.Ranges.{cycles-between, extent_in-range, limits_in-range}
+use Rattle.pc_command.proofs.Ranges.{cycles-between, extent_in-range, limits_in-range, trace-between}
 
 -- equal where they are there
 value_is : {X : Type 0} (x y : X) → Some x ≡ Some y → x ≡ y
@@ -91,3 +95,37 @@ simulate_command_of-range words request e = by (matches_taken simulate_app words
     by (Some matches) e =
         let is = value_is (simulate_request_in matches) request e in
         subst (λ (r : SimulateRequest). AreCycles r.cycles) is (cycles-between matches)
+
+-- the number of a trace that is asked for is the one that was given
+traced_given : (rows : Bool) (trace : Option ℕ) (dot json : Bool) (cycles : ℕ) → mode_of rows trace dot json ≡ Some (mode.Trace cycles) → trace ≡ Some cycles
+traced_given false (Some given) false false cycles e = cc
+traced_given false None false false cycles e = absurd (cc)
+traced_given true None false false cycles e = absurd (cc)
+traced_given false None true false cycles e = absurd (cc)
+traced_given false None false true cycles e = absurd (cc)
+traced_given _ _ _ _ cycles e = absurd (cc)
+
+-- what the profiler's matches ask is in range
+stat_request_in-range : (matches : Matches) (request : StatRequest) → stat_request_in matches ≡ Some request → IsStatInRange request
+unfolding stat_request_in
+stat_request_in-range matches request e = by (mode_in matches) refl e
+  where
+    by : (o : Option StatMode) → mode_in matches ≡ o
+        → option_map (λ mode. record { object = word_in (codes "OBJ") matches; cycles = number_in cycles_option matches; mode = mode }) o ≡ Some request
+        → IsStatInRange request
+    by None h e = absurd (cc)
+    by (Some asked) h e =
+        let is = value_is _ request e in
+        let held : IsStatInRange record { object = word_in (codes "OBJ") matches; cycles = number_in cycles_option matches; mode = asked } = record {
+          cycles = cycles-between matches;
+          trace = λ cycles traced. trace-between matches cycles (traced_given _ _ _ _ cycles (h ∙ ap (λ (m : StatMode). Some m) traced));
+        } in
+        subst (λ (r : StatRequest). IsStatInRange r) is held
+
+pub stat_command_of-range : StatCommandsAreInRange
+unfolding stat_command_of
+stat_command_of-range words request e = by (matches_taken stat_app words) e
+  where
+    by : (o : Option Matches) → option_and_then stat_request_in o ≡ Some request → IsStatInRange request
+    by None e = absurd (cc)
+    by (Some matches) e = stat_request_in-range matches request e

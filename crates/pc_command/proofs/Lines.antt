@@ -1,7 +1,10 @@
 -- The lines of the table of options, and their defaults as text.
 use Rattle.std.proofs.Common.{◌≡◌, refl, codes}
+use Rattle.std.specs.Option.{IsSome}
+use Rattle.clap.specs.Walk.{one_of}
 use Rattle.std.specs.Fmt.{decimal, digits}
-use Rattle.pc_command.specs.Options.{number_option, ops_option, tests_option, mem_option, window_option, rows_option, cycles_option}
+use Rattle.pc_command.specs.Matching.{Matches}
+use Rattle.pc_command.specs.Options.{NumberOption, number_found, number_option, ops_option, tests_option, mem_option, window_option, rows_option, cycles_option, trace_option}
 
 pub ops-line : ops_option ≡ number_option (codes "ops") 1 32 8
 unfolding ops_option
@@ -51,5 +54,20 @@ pub cycles-text : decimal 100000000 ≡ codes "100000000"
 unfolding digits
 cycles-text = refl
 
+pub trace-line : trace_option ≡ number_option (codes "trace") 1 1000000000000 0
+unfolding trace_option
+trace-line = refl
+
+pub trace-text : decimal 0 ≡ codes "0"
+unfolding digits
+trace-text = refl
+
 -- what the code's table is checked against
-pub ruleset option_lines = (ops-line, ops-text, tests-line, tests-text, mem-line, mem-text, window-line, window-text, rows-line, rows-text, cycles-line, cycles-text)
+pub ruleset option_lines = (ops-line, ops-text, tests-line, tests-text, mem-line, mem-text, window-line, window-text, rows-line, rows-text, cycles-line, cycles-text, trace-line, trace-text)
+
+-- a number of cycles to be traced that is there is there by the line of the code's table too
+pub trace-found : (line : NumberOption) (matches : Matches) → line ≡ trace_option
+    → (IsSome (one_of (codes "trace") matches) → IsSome (number_found trace_option matches))
+    → IsSome (one_of line.name matches) → IsSome (number_found line matches)
+unfolding trace_option
+trace-found line matches is found = rw is found

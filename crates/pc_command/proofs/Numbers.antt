@@ -1,5 +1,5 @@
 -- The number of an option, as std reads it of the matches.
-use Rattle.std.proofs.Common.{◌≡◌, ◌≤◌, ℕ, Bool, true, false, refl, ap}
+use Rattle.std.proofs.Common.{◌≡◌, ◌≤◌, ℕ, Bool, true, false, refl, sym, ◌∙◌, ap}
 use Rattle.std.specs.Prelude.{Option, Some, None, Result, option_and_then, unwrap_or}
 use Rattle.std.specs.declared.num.ParseIntError.{ParseIntError}
 use Rattle.std.specs.Str.Parse.{ExplainsUnsignedError, HasUnsignedDigitsIfOk, ParsesUnsigned, digits_value, without_leading_plus}
@@ -56,6 +56,44 @@ number_in-read option matches read is found = by (one_of option.name matches) re
     by None e some = absurd (cc)
     by (Some text) e some =
         rw (number_in-text option matches text e) (by_text text (is_unsigned_in option.least option.greatest text) refl some (is.value text e))
+
+-- a number that is there is the option's
+number_in-found : (option : NumberOption) (matches : Matches) → IsSome (number_found option matches) → number_found option matches ≡ Some (number_in option matches)
+unfolding number_in
+number_in-found option matches found = by (number_found option matches) found
+  where
+    by : (o : Option ℕ) → IsSome o → o ≡ Some (unwrap_or o option.default)
+    by None some = absurd (cc)
+    by (Some number) some = refl
+
+-- what std reads is the number that the matches have, if they have one
+pub number_found-read : (option : NumberOption) (matches : Matches) (read : Option ℕ) → IsRead option matches read
+    → (IsSome (one_of option.name matches) → IsSome (number_found option matches)) → read ≡ number_found option matches
+number_found-read option matches read is found = by (one_of option.name matches) refl found
+  where
+    by : (o : Option Text) → one_of option.name matches ≡ o → (IsSome o → IsSome (option_and_then (number_spelled option) o)) → read ≡ number_found option matches
+    by None e found = is.none e ∙ (rw e refl)
+    by (Some text) e found =
+        let some : IsSome (number_found option matches) = rw e (found refl) in
+        number_in-read option matches read is some ∙ sym (number_in-found option matches some)
+
+-- a number that is there lies in the option's range
+pub number_found-between : (option : NumberOption) (matches : Matches) (number : ℕ) → number_found option matches ≡ Some number
+    → (option.least ≤ number) × (number ≤ option.greatest)
+number_found-between option matches number e = by (one_of option.name matches) e
+  where
+    spelled : (text : Text) (b : Bool) → is_unsigned_in option.least option.greatest text ≡ b → number_spelled option text ≡ Some number
+        → (option.least ≤ number) × (number ≤ option.greatest)
+    spelled text true is e =
+        let h : IsUnsignedIn option.least option.greatest text = accepts-Accepts false (vp.Unsigned option.least option.greatest) text is in
+        let same : Some (digits_value 10 (without_leading_plus text)) ≡ Some number = rw is at e in
+        let value : digits_value 10 (without_leading_plus text) ≡ number = cc in
+        rw (← value) (h.2, h.3)
+    spelled text false is e = absurd (let bad : None ≡ Some number = rw is at e in cc)
+
+    by : (o : Option Text) → option_and_then (number_spelled option) o ≡ Some number → (option.least ≤ number) × (number ≤ option.greatest)
+    by None e = absurd (cc)
+    by (Some text) e = spelled text (is_unsigned_in option.least option.greatest text) refl e
 
 -- the number of an option lies in its range, where its default does
 pub number_in-between : (option : NumberOption) (matches : Matches) → option.least ≤ option.default → option.default ≤ option.greatest

@@ -8,11 +8,11 @@ use Rattle.clap.specs.Walk.{Held, Rule, Text, Waiting, Walk, after_step, idle, n
 use Rattle.clap.specs.declared.builder.value_parser.Reading.TheVariants.{AsWritten}
 use Rattle.clap.specs.declared.parser.matches.ValueSource.TheVariants.{CommandLine}
 use Rattle.clap.proofs.OnLiterals.{clap_on_literals}
-use Rattle.pc_command.specs.Arguments.{compile_app, flag_in, matches_taken, simulate_app, view_app, word_in}
-use Rattle.pc_command.specs.Laws.{IsPlainWord, NoWordsAreNoCommand, PlainWordSimulates, PlainWordViews, PlainWordsCompile}
+use Rattle.pc_command.specs.Arguments.{compile_app, flag_in, matches_taken, simulate_app, stat_app, view_app, word_in}
+use Rattle.pc_command.specs.Laws.{IsPlainWord, NoWordsAreNoCommand, PlainWordProfiles, PlainWordSimulates, PlainWordViews, PlainWordsCompile}
 use Rattle.pc_command.specs.Options.{number_in}
 use Rattle.pc_command.specs.Requests.{compile_command_of, compile_request_in, simulate_command_of, simulate_request_in}
-use Rattle.pc_command.specs.Requests.{view_command_of, view_request_in}
+use Rattle.pc_command.specs.Requests.{stat_command_of, stat_request_in, view_command_of, view_request_in}
 use Rattle.pc_command.proofs.Programs.{argument_tables}
 
 -- ---- a plain word is neither a flag nor an option
@@ -120,6 +120,28 @@ pub plain_word-views : PlainWordViews
 unfolding view_command_of view_request_in matches_taken word_in flag_in argument_tables
 plain_word-views object is = rw (view-fault object is, view-walked object is) refl
 
+-- ---- the profiler's word
+
+-- the walk over OBJ
+stat-walked : (object : Text) → IsPlainWord object → walked (built stat_app).top.rules [] (walk_from nothing_held) object ≡ at_place (object_held object) idle 2
+unfolding argument_tables
+stat-walked object is = plain_word-walked (built stat_app).top.rules nothing_held idle 1 object is
+
+-- finds no fault
+stat-walk_fault : (object : Text) → IsPlainWord object → walk_fault (built stat_app).top [] (walk_from nothing_held) (object ∷ []) ≡ []
+unfolding argument_tables walk_fault
+stat-walk_fault object is = rw (plain_word-turn (built stat_app).top nothing_held idle 1 object is) refl
+
+-- and there is none after it
+stat-fault : (object : Text) → IsPlainWord object → fault_of stat_app (object ∷ []) ≡ []
+unfolding argument_tables defaults_fault
+stat-fault object is = rw (stat-walk_fault object is, stat-walked object is) refl
+
+-- one plain word is a command of the profiler
+pub plain_word-profiles : PlainWordProfiles
+unfolding stat_command_of stat_request_in matches_taken word_in flag_in number_in argument_tables
+plain_word-profiles object is = rw (stat-fault object is, stat-walked object is) refl
+
 -- ---- the compiler's words
 
 -- what is held after SRC, after `-o`, and after OBJ
@@ -185,5 +207,5 @@ plain_words-compile source object place is also named =
 
 -- are no command
 pub no_words-command : NoWordsAreNoCommand
-unfolding compile_command_of simulate_command_of view_command_of matches_taken argument_tables clap_on_literals
-no_words-command = (refl, refl, refl)
+unfolding compile_command_of simulate_command_of view_command_of stat_command_of matches_taken argument_tables clap_on_literals
+no_words-command = (refl, refl, refl, refl)

@@ -1,10 +1,11 @@
 -- The numbers of the options lie in their ranges.
 use Rattle.std.proofs.Common.{◌≡◌, ◌≤◌, ℕ, lit≤}
+use Rattle.std.specs.Prelude.{Some}
 use Rattle.pc_command.specs.Matching.{Matches}
-use Rattle.pc_command.specs.Options.{NumberOption, number_in, ops_option, tests_option, mem_option, window_option, rows_option, cycles_option}
+use Rattle.pc_command.specs.Options.{NumberOption, number_found, number_in, ops_option, tests_option, mem_option, window_option, rows_option, cycles_option, trace_option}
 use Rattle.pc_word.specs.Ranges.{AreCycles, IsExtent, AreLimits, IsBetween}
 use Rattle.pc_command.specs.Requests.{extent_in, limits_in}
-use Rattle.pc_command.proofs.Numbers.{number_in-between}
+use Rattle.pc_command.proofs.Numbers.{number_found-between, number_in-between}
 
 pub ops-between : (matches : Matches) → IsBetween 1 32 (number_in ops_option matches)
 unfolding ops_option
@@ -29,6 +30,10 @@ rows-between matches = number_in-between rows_option matches (lit≤ tt) (lit≤
 pub cycles-between : (matches : Matches) → AreCycles (number_in cycles_option matches)
 unfolding cycles_option
 cycles-between matches = number_in-between cycles_option matches (lit≤ tt) (lit≤ tt)
+
+pub trace-between : (matches : Matches) (cycles : ℕ) → number_found trace_option matches ≡ Some cycles → AreCycles cycles
+unfolding trace_option
+trace-between matches cycles e = number_found-between trace_option matches cycles e
 
 -- the number of a line of the code's table is at most what the number of the option is
 pub number-most : (line option : NumberOption) (matches : Matches) (number most : ℕ) → line ≡ option → number ≡ number_in line matches

@@ -10,19 +10,19 @@ use Rattle.clap.specs.Simple.{App, Shape, argument_words, built, matches_of, nam
 use Rattle.clap.specs.Takes.{is_given}
 use Rattle.clap.specs.Values.{read_as}
 use Rattle.clap.specs.ValueTests.{is_unsigned_in}
-use Rattle.clap.specs.Walk.{Names, Rule, Text, action_of, arg_by_id, finished, first_of, has_row, nothing_held, settled, walk, walk_from}
+use Rattle.clap.specs.Walk.{Names, Rule, Text, action_of, arg_by_id, finished, first_of, has_row, nothing_held, one_of, settled, walk, walk_from}
 use Rattle.clap.specs.declared.builder.value_parser.Reading.{Reading}
 use Rattle.clap.specs.declared.builder.value_parser.Reading.TheVariants.{AsWritten}
 use Rattle.clap.specs.declared.builder.value_parser.ValueParser.TheVariants as vp
 use Rattle.clap.proofs.OnLiterals.{clap_on_literals}
 use Rattle.pc_word.proofs.Truth.{or_false}
 use Rattle.pc_command.specs.Matching.{Matches}
-use Rattle.pc_command.specs.Arguments.{compile_app, flag_found, flag_spelled, matches_taken, simulate_app, view_app}
-use Rattle.pc_command.specs.Laws.{CompileMatchesAreWhole, SimulateMatchesAreWhole, ViewMatchesAreWhole}
-use Rattle.pc_command.specs.Options.{NumberOption, cycles_option, mem_option, number_found, number_spelled, ops_option, rows_option, tests_option, window_option}
+use Rattle.pc_command.specs.Arguments.{compile_app, flag_found, flag_spelled, matches_taken, simulate_app, stat_app, view_app}
+use Rattle.pc_command.specs.Laws.{CompileMatchesAreWhole, SimulateMatchesAreWhole, StatMatchesAreWhole, ViewMatchesAreWhole}
+use Rattle.pc_command.specs.Options.{NumberOption, cycles_option, mem_option, number_found, number_spelled, ops_option, rows_option, tests_option, trace_option, window_option}
 use Rattle.pc_command.proofs.Values.{Holds, IsPlainRule, is_plain_action, no_faults}
 use Rattle.pc_command.proofs.Walks.{settled_at_end, walk-holds}
-use Rattle.pc_command.proofs.Defaults.{HasRow, defaults-hold, defaults_are_there, row_given, row_there}
+use Rattle.pc_command.proofs.Defaults.{HasRow, defaults-hold, defaults_are_there, row_given, row_read, row_there}
 use Rattle.pc_command.proofs.Programs.{argument_tables}
 
 -- ---- what is read of a row
@@ -152,6 +152,9 @@ simulate_rules = (built simulate_app).top.rules
 abbrev view_rules : List Rule
 view_rules = (built view_app).top.rules
 
+abbrev stat_rules : List Rule
+stat_rules = (built stat_app).top.rules
+
 -- an argument that may be used
 used_rule : (rules : List Rule) (a : Rule) → arg_by_id rules a.id ≡ Some a → is_plain_action (action_of a) ≡ true
     → (nat_lt 0 (unwrap_or_range a.range).start_inclusive || nat_lt 0 (length a.missing)) ≡ true → values_fault a a.defaults ≡ [] → IsPlainRule rules a
@@ -185,7 +188,7 @@ simulate_rules_are_plain =
     (also (record { first = refl; plain = refl; valued = λ used. used; defaults = refl })
     tt))
 
--- and each of the viewer
+-- each of the viewer
 view_rules_are_plain : AllByRecursion (IsPlainRule view_rules) view_rules
 unfolding argument_tables clap_on_literals
 view_rules_are_plain =
@@ -193,6 +196,19 @@ view_rules_are_plain =
     (also (used_rule _ _ refl refl refl refl)
     (also (record { first = refl; plain = refl; valued = λ used. used; defaults = refl })
     tt))
+
+-- each of the profiler
+stat_rules_are_plain : AllByRecursion (IsPlainRule stat_rules) stat_rules
+unfolding argument_tables clap_on_literals
+stat_rules_are_plain =
+    also (used_rule _ _ refl refl refl refl)
+    (also (used_rule _ _ refl refl refl refl)
+    (also (used_rule _ _ refl refl refl refl)
+    (also (used_rule _ _ refl refl refl refl)
+    (also (used_rule _ _ refl refl refl refl)
+    (also (used_rule _ _ refl refl refl refl)
+    (also (record { first = refl; plain = refl; valued = λ used. used; defaults = refl })
+    tt))))))
 
 module _ (rules : List Rule) (matches : Matches) (hold : AllByRecursion (Holds rules) matches) where
   -- a word that is given
@@ -203,6 +219,11 @@ module _ (rules : List Rule) (matches : Matches) (hold : AllByRecursion (Holds r
   number_of : (line : NumberOption) (a : Rule) → IsPlainRule rules a → a.id ≡ line.name → a.parser ≡ Some (vp.Unsigned line.least line.greatest)
       → has_row a.id matches ≡ true → IsSome (number_found line matches)
   number_of line a is named parser has = number_there line a matches named parser (row_there rules a matches is.first hold has)
+
+  -- the number of an option, where a text is given
+  number_if_given : (line : NumberOption) (a : Rule) → IsPlainRule rules a → a.id ≡ line.name → a.parser ≡ Some (vp.Unsigned line.least line.greatest)
+      → IsSome (one_of a.id matches) → IsSome (number_found line matches)
+  number_if_given line a is named parser given = number_there line a matches named parser (row_read rules a matches is.first hold given)
 
   -- the state of a flag, which has one
   flag_of : (a : Rule) → IsPlainRule rules a → a.parser ≡ Some vp.Bool → has_row a.id matches ≡ true → IsSome (flag_found a.id matches)
@@ -248,4 +269,20 @@ view_matches-whole words matches e =
     record {
       object = word_of view_rules matches are.hold _ plain.0 (not_lacking _ lacking.0);
       dot = flag_of view_rules matches are.hold _ plain.1.0 refl (are.defaults.1.0 refl);
+    }
+
+-- nor of the profiler's
+pub stat_matches-whole : StatMatchesAreWhole
+unfolding argument_tables
+stat_matches-whole words matches e =
+    let are = matches_are_filled stat_app words matches stat_rules_are_plain e in
+    let plain = stat_rules_are_plain in
+    let lacking = or_false _ _ (asks_for_none _ _ _ are.checked) in
+    record {
+      object = word_of stat_rules matches are.hold _ plain.0 (not_lacking _ lacking.0);
+      cycles = number_of stat_rules matches are.hold cycles_option _ plain.1.0 refl refl (are.defaults.1.0 refl);
+      rows = flag_of stat_rules matches are.hold _ plain.1.1.0 refl (are.defaults.1.1.0 refl);
+      trace = number_if_given stat_rules matches are.hold trace_option _ plain.1.1.1.0 refl refl;
+      dot = flag_of stat_rules matches are.hold _ plain.1.1.1.1.0 refl (are.defaults.1.1.1.1.0 refl);
+      json = flag_of stat_rules matches are.hold _ plain.1.1.1.1.1.0 refl (are.defaults.1.1.1.1.1.0 refl);
     }

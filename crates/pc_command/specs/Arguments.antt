@@ -7,7 +7,7 @@ use Rattle.clap.specs.Kinds.{Kinds}
 use Rattle.clap.specs.declared.builder.action.ArgAction.TheVariants.{Set, SetTrue}
 use Rattle.clap.specs.declared.builder.value_parser.ValueParser.TheVariants as vp
 use Rattle.pc_command.specs.Matching.{Matches}
-use Rattle.pc_command.specs.Options.{NumberOption, ops_option, tests_option, mem_option, window_option, rows_option, cycles_option}
+use Rattle.pc_command.specs.Options.{NumberOption, ops_option, tests_option, mem_option, window_option, rows_option, cycles_option, trace_option}
 
 -- `NAME`: a word at its place, which may not be left out
 abbrev pub word_argument : Text → Rule
@@ -25,6 +25,10 @@ number_argument option = record (new_rule option.name) {
   parser = Some (vp.Unsigned option.least option.greatest);
   defaults = decimal option.default ∷ [];
 }
+
+-- `[--NAME N]`: a number in the option's range, of which `clap` is told no default
+abbrev pub optional_argument : NumberOption → Rule
+optional_argument option = record (number_argument option) { defaults = [] }
 
 -- `[--NAME]`: a flag, which is off where it is left out
 abbrev pub flag_argument : Text → Rule
@@ -60,6 +64,17 @@ view_app = app_with (codes "pview") (
     word_argument (codes "OBJ")
     ∷ (flag_argument (codes "dot")
     ∷ []))
+
+-- `pstat OBJ [--cycles N] [--rows] [--trace N] [--dot] [--json]`
+unfoldable pub stat_app : App
+stat_app = app_with (codes "pstat") (
+    word_argument (codes "OBJ")
+    ∷ (number_argument cycles_option
+    ∷ (flag_argument (codes "rows")
+    ∷ (optional_argument trace_option
+    ∷ (flag_argument (codes "dot")
+    ∷ (flag_argument (codes "json")
+    ∷ []))))))
 
 -- matches, unless there is a fault
 abbrev pub unless_faulty : Kinds → Matches → Option Matches

@@ -1,13 +1,14 @@
 -- What holds of every command, said of the definitions alone.
 use Rattle.std.specs.Prelude.{◌≡◌, ◌≢◌, ℕ, ◌^◌, ◌<◌, List, [], ◌∷◌, Some, None, codes, false}
 use Rattle.std.specs.Option.{IsSome}
-use Rattle.clap.specs.Walk.{first_of}
+use Rattle.clap.specs.Walk.{first_of, one_of}
 use Rattle.pc_word.specs.Ranges.{AreCycles, IsExtent, AreLimits}
 use Rattle.pc_command.specs.Matching.{Matches}
-use Rattle.pc_command.specs.Arguments.{compile_app, flag_found, matches_taken, simulate_app, view_app}
-use Rattle.pc_command.specs.Options.{cycles_option, mem_option, number_found, ops_option, rows_option, tests_option, window_option}
+use Rattle.pc_command.specs.Arguments.{compile_app, flag_found, matches_taken, simulate_app, stat_app, view_app}
+use Rattle.pc_command.specs.Options.{cycles_option, mem_option, number_found, ops_option, rows_option, tests_option, trace_option, window_option}
 use Rattle.pc_command.specs.Requests.{CompileRequest, OfFile, OfSample, SourcePlace, SimulateRequest, compile_command_of, simulate_command_of, source_place_of}
-use Rattle.pc_command.specs.Requests.{view_command_of}
+use Rattle.pc_command.specs.Requests.{StatRequest, stat_command_of, view_command_of}
+use Rattle.pc_command.specs.declared.stat.StatMode.TheVariants as mode
 
 -- ---- the ranges of a command
 
@@ -29,6 +30,15 @@ CompileCommandsAreInRange = (words : List (List ℕ)) (request : CompileRequest)
 -- and each of the simulator
 abbrev pub SimulateCommandsAreInRange : Type 0
 SimulateCommandsAreInRange = (words : List (List ℕ)) (request : SimulateRequest) → simulate_command_of words ≡ Some request → AreCycles request.cycles
+
+-- what words ask of the profiler lies in the ranges of its options
+pub record IsStatInRange (request : StatRequest) : Type 0 where
+  pub cycles : AreCycles request.cycles
+  pub trace : (cycles : ℕ) → request.mode ≡ mode.Trace cycles → AreCycles cycles
+
+-- and each of the profiler
+abbrev pub StatCommandsAreInRange : Type 0
+StatCommandsAreInRange = (words : List (List ℕ)) (request : StatRequest) → stat_command_of words ≡ Some request → IsStatInRange request
 
 -- ---- the matches of a command
 
@@ -53,6 +63,15 @@ pub record AreViewMatches (matches : Matches) : Type 0 where
   pub object : IsSome (first_of (codes "OBJ") matches)
   pub dot : IsSome (flag_found (codes "dot") matches)
 
+-- and of the profiler's; a number of cycles to be traced is there where one is given
+pub record AreStatMatches (matches : Matches) : Type 0 where
+  pub object : IsSome (first_of (codes "OBJ") matches)
+  pub cycles : IsSome (number_found cycles_option matches)
+  pub rows : IsSome (flag_found (codes "rows") matches)
+  pub trace : IsSome (one_of (codes "trace") matches) → IsSome (number_found trace_option matches)
+  pub dot : IsSome (flag_found (codes "dot") matches)
+  pub json : IsSome (flag_found (codes "json") matches)
+
 -- the matches that `clap` gives of words that it takes lack nothing, so no command has a word or a number that stands for a missing one
 abbrev pub CompileMatchesAreWhole : Type 0
 CompileMatchesAreWhole = (words : List (List ℕ)) (matches : Matches) → matches_taken compile_app words ≡ Some matches → AreCompileMatches matches
@@ -61,9 +80,13 @@ CompileMatchesAreWhole = (words : List (List ℕ)) (matches : Matches) → match
 abbrev pub SimulateMatchesAreWhole : Type 0
 SimulateMatchesAreWhole = (words : List (List ℕ)) (matches : Matches) → matches_taken simulate_app words ≡ Some matches → AreSimulateMatches matches
 
--- and those of the viewer
+-- those of the viewer
 abbrev pub ViewMatchesAreWhole : Type 0
 ViewMatchesAreWhole = (words : List (List ℕ)) (matches : Matches) → matches_taken view_app words ≡ Some matches → AreViewMatches matches
+
+-- and those of the profiler
+abbrev pub StatMatchesAreWhole : Type 0
+StatMatchesAreWhole = (words : List (List ℕ)) (matches : Matches) → matches_taken stat_app words ≡ Some matches → AreStatMatches matches
 
 -- ---- plain words
 
@@ -94,6 +117,12 @@ PlainWordSimulates = (object : List ℕ) → IsPlainWord object → simulate_com
 abbrev pub PlainWordViews : Type 0
 PlainWordViews = (object : List ℕ) → IsPlainWord object → view_command_of (object ∷ []) ≡ Some (record { object = object; dot = false })
 
+-- `OBJ` asks for the summary of a run of the object at OBJ, with the default
+abbrev pub PlainWordProfiles : Type 0
+PlainWordProfiles = (object : List ℕ) → IsPlainWord object
+    → stat_command_of (object ∷ []) ≡ Some (record { object = object; cycles = 100000000; mode = mode.Summary })
+
 -- no words are no command
 abbrev pub NoWordsAreNoCommand : Type 0
-NoWordsAreNoCommand = (compile_command_of [] ≡ None) × (simulate_command_of [] ≡ None) × (view_command_of [] ≡ None)
+NoWordsAreNoCommand =
+    (compile_command_of [] ≡ None) × (simulate_command_of [] ≡ None) × (view_command_of [] ≡ None) × (stat_command_of [] ≡ None)

@@ -41,6 +41,10 @@ rows_option = number_option (codes "rows") 1 most_rows 256
 unfoldable pub cycles_option : NumberOption
 cycles_option = number_option (codes "cycles") 1 most_cycles 100000000
 
+-- how many cycles are traced; where the words leave it out, none is
+unfoldable pub trace_option : NumberOption
+trace_option = number_option (codes "trace") 1 most_cycles 0
+
 -- the number that a text spells, where the option takes it: digits that a `+` may precede, and a number in the range
 abbrev pub number_spelled : NumberOption → Text → Option ℕ
 number_spelled option text =

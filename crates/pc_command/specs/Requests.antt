@@ -1,12 +1,12 @@
--- What the words of a command line ask of the compiler, of the simulator and of the viewer.
-use Rattle.std.specs.Prelude.{ℕ, ◌^◌, ◌==◌, ◌&&◌, Bool, List, [], ◌∷◌, Option, Some, None, codes, if◌then◌else◌, nat_lt, option_and_then, option_map}
+-- What the words of a command line ask of the compiler, of the simulator, of the viewer and of the profiler.
+use Rattle.std.specs.Prelude.{ℕ, ◌^◌, ◌==◌, ◌&&◌, Bool, true, false, List, [], ◌∷◌, Option, Some, None, codes, if◌then◌else◌, nat_lt, option_and_then, option_map}
 use Rattle.std.specs.Str.Parse.{digits_value}
 use Rattle.pc_word.specs.NumberText.{is_numeral}
 use Rattle.pc_word.specs.declared.item.Limits.{Limits}
 use Rattle.pc_word.specs.declared.item.Extent.{Extent}
 use Rattle.pc_command.specs.Matching.{Matches}
-use Rattle.pc_command.specs.Arguments.{compile_app, flag_in, matches_taken, simulate_app, view_app, word_in}
-use Rattle.pc_command.specs.Options.{number_in, ops_option, tests_option, mem_option, window_option, rows_option, cycles_option}
+use Rattle.pc_command.specs.Arguments.{compile_app, flag_in, matches_taken, simulate_app, stat_app, view_app, word_in}
+use Rattle.pc_command.specs.Options.{number_found, number_in, ops_option, tests_option, mem_option, window_option, rows_option, cycles_option, trace_option}
 use Rattle.pc_command.specs.declared.error.CommandError.{CommandError}
 use Rattle.pc_command.specs.declared.error.CommandError.TheVariants as error
 use Rattle.pc_command.specs.declared.source.SourceName.{SourceName}
@@ -14,6 +14,9 @@ use Rattle.pc_command.specs.declared.source.SourceName.TheVariants as name
 use Rattle.pc_command.specs.declared.compile.CompileCommand.{CompileCommand}
 use Rattle.pc_command.specs.declared.simulate.SimulateCommand.{SimulateCommand}
 use Rattle.pc_command.specs.declared.view.ViewCommand.{ViewCommand}
+use Rattle.pc_command.specs.declared.stat.StatCommand.{StatCommand}
+use Rattle.pc_command.specs.declared.stat.StatMode.{StatMode}
+use Rattle.pc_command.specs.declared.stat.StatMode.TheVariants as mode
 
 -- where a source comes from: the file of this name, or the generated sample of this number
 pub data SourcePlace : Type 0 where
@@ -37,6 +40,12 @@ pub record SimulateRequest : Type 0 where
 pub record ViewRequest : Type 0 where
   pub object : List ℕ
   pub dot : Bool
+
+-- what the profiler is asked to do: to run an object for at most so many cycles, and to tell what the run cost in one of its texts
+pub record StatRequest : Type 0 where
+  pub object : List ℕ
+  pub cycles : ℕ
+  pub mode : StatMode
 
 -- the number that bytes spell in decimal digits alone, where it is one from 0 to 4294967295
 abbrev pub sample_number_of : List ℕ → Option ℕ
@@ -82,6 +91,28 @@ simulate_request_in matches = record { object = word_in (codes "OBJ") matches; c
 unfoldable pub view_request_in : Matches → ViewRequest
 view_request_in matches = record { object = word_in (codes "OBJ") matches; dot = flag_in (codes "dot") matches }
 
+-- which text the profiler is asked for: at most one of the words asks for one, and without them it is the summary
+abbrev pub mode_of : (rows : Bool) → (trace : Option ℕ) → (dot json : Bool) → Option StatMode
+mode_of false None false false = Some mode.Summary
+mode_of true None false false = Some mode.Rows
+mode_of false (Some cycles) false false = Some (mode.Trace cycles)
+mode_of false None true false = Some mode.Dot
+mode_of false None false true = Some mode.Json
+mode_of _ _ _ _ = None
+
+-- which one the profiler's matches ask for
+abbrev pub mode_in : Matches → Option StatMode
+mode_in matches =
+    mode_of (flag_in (codes "rows") matches) (number_found trace_option matches) (flag_in (codes "dot") matches) (flag_in (codes "json") matches)
+
+-- what the profiler's matches ask, where they ask for one text
+unfoldable pub stat_request_in : Matches → Option StatRequest
+stat_request_in matches = option_map (λ mode. record {
+  object = word_in (codes "OBJ") matches;
+  cycles = number_in cycles_option matches;
+  mode = mode;
+}) (mode_in matches)
+
 -- what words ask of the compiler, if they are a command: `clap` takes them, and SRC names a source
 unfoldable pub compile_command_of : List (List ℕ) → Option CompileRequest
 compile_command_of words = option_and_then compile_request_in (matches_taken compile_app words)
@@ -93,6 +124,10 @@ simulate_command_of words = option_map simulate_request_in (matches_taken simula
 -- what words ask of the viewer, if they are a command: `clap` takes them
 unfoldable pub view_command_of : List (List ℕ) → Option ViewRequest
 view_command_of words = option_map view_request_in (matches_taken view_app words)
+
+-- what words ask of the profiler, if they are a command: `clap` takes them, and they ask for one text
+unfoldable pub stat_command_of : List (List ℕ) → Option StatRequest
+stat_command_of words = option_and_then stat_request_in (matches_taken stat_app words)
 
 -- a name of a source, as plain data
 abbrev pub source_place : SourceName → SourcePlace
@@ -113,9 +148,13 @@ compile_request command = record {
 abbrev pub simulate_request : SimulateCommand → SimulateRequest
 simulate_request command = record { object = command.object.now; cycles = command.cycles }
 
--- and for the viewer
+-- for the viewer
 abbrev pub view_request : ViewCommand → ViewRequest
 view_request command = record { object = command.object.now; dot = command.dot }
+
+-- and for the profiler
+abbrev pub stat_request : StatCommand → StatRequest
+stat_request command = record { object = command.object.now; cycles = command.cycles; mode = command.mode }
 
 -- why words are refused: they are no command; want of memory has no cause
 abbrev pub command_cause : CommandError → Option CommandError

@@ -8,7 +8,7 @@ ghost use Rattle.clap.specs.Values.{kind_of};
 ghost use Rattle.clap.specs.declared.error.kind.ErrorKind.TheVariants.{OutOfMemory};
 ghost use Rattle.pc_word.specs.Exact.{IsExact};
 ghost use Rattle.pc_command.specs.Matching.{matches_in};
-ghost use Rattle.pc_command.specs.Arguments.{compile_app, flag_argument, flag_found, flag_in, letter_argument, matches_taken, simulate_app, view_app, word_argument, word_in};
+ghost use Rattle.pc_command.specs.Arguments.{compile_app, flag_argument, flag_found, flag_in, letter_argument, matches_taken, simulate_app, stat_app, view_app, word_argument, word_in};
 ghost use Rattle.pc_command.specs.Requests.{command_cause};
 ghost use Rattle.pc_command.specs.Words.{spelled};
 
@@ -80,6 +80,22 @@ pub(crate) fn view_app<'a>(alloc: Global) -> Result<Command<'a>, clap::Error>
         .no_binary_name(true)
         .arg(word_argument(alloc, "OBJ"))?
         .arg(flag_argument(alloc, "dot"))?;
+    Ok(command)
+}
+
+/// `pstat OBJ [--cycles N] [--rows] [--trace N] [--dot] [--json]`.
+pub(crate) fn stat_app<'a>(alloc: Global) -> Result<Command<'a>, clap::Error>
+    ensures app { IfOk result (λ command. app_of command ≡ stat_app) }
+    ensures memory { IfErr result (λ error. kind_of error ≡ OutOfMemory) }
+{
+    let command = Command::new(alloc, "pstat")
+        .no_binary_name(true)
+        .arg(word_argument(alloc, "OBJ"))?
+        .arg(OptionLine::cycles().argument(alloc))?
+        .arg(flag_argument(alloc, "rows"))?
+        .arg(OptionLine::trace().optional_argument(alloc))?
+        .arg(flag_argument(alloc, "dot"))?
+        .arg(flag_argument(alloc, "json"))?;
     Ok(command)
 }
 

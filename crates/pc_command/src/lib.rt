@@ -8,6 +8,7 @@ mod laws;
 mod number_option;
 mod simulate;
 mod source;
+mod stat;
 mod view;
 
 pub use compile::{CompileCommand, compile_command};
@@ -15,4 +16,5 @@ pub use error::CommandError;
 pub use laws::{laws_of_matches, laws_of_plain_words, laws_of_ranges};
 pub use simulate::{SimulateCommand, simulate_command};
 pub use source::SourceName;
+pub use stat::{StatCommand, StatMode, stat_command};
 pub use view::{ViewCommand, view_command};

@@ -1,11 +1,11 @@
 //! The options that take a number, as a table.
 ghost use Rattle.std.specs.Prelude.{◌≡◌, decimal, false};
 ghost use Rattle.std.specs.Option.{IsSome};
-ghost use Rattle.clap.specs.Walk.{rule_of};
+ghost use Rattle.clap.specs.Walk.{one_of, rule_of};
 ghost use Rattle.pc_command.specs.Matching.{matches_in};
-ghost use Rattle.pc_command.specs.Arguments.{number_argument};
+ghost use Rattle.pc_command.specs.Arguments.{number_argument, optional_argument};
 ghost use Rattle.pc_command.specs.Options.{number_found, number_in, number_option};
-ghost use Rattle.pc_command.specs.Options.{ops_option, tests_option, mem_option, window_option, rows_option, cycles_option};
+ghost use Rattle.pc_command.specs.Options.{ops_option, tests_option, mem_option, window_option, rows_option, cycles_option, trace_option};
 
 use clap::builder::ValueParser;
 use clap::{Arg, ArgAction, ArgMatches};
@@ -41,16 +41,24 @@ impl<'a> OptionLine<'a> {
         }
     }
 
-    /// The option as an argument of a command.
+    /// The option as an argument of a command, which has its default where it is left out.
     pub(crate) fn argument(self, alloc: Global) -> Arg<'a>
         ensures rule { rule_of result ≡ number_argument (option_of self.entry) }
+        ensures local { result.global ≡ false }
+    {
+        self.optional_argument(alloc)
+            .default_value(self.default_text)
+    }
+
+    /// The option as an argument of a command, which has no number where it is left out.
+    pub(crate) fn optional_argument(self, alloc: Global) -> Arg<'a>
+        ensures rule { rule_of result ≡ optional_argument (option_of self.entry) }
         ensures local { result.global ≡ false }
     {
         Arg::new(alloc, self.name)
             .long(self.name)
             .action(ArgAction::Set)
             .value_parser(ValueParser::Unsigned(self.least, self.greatest))
-            .default_value(self.default_text)
     }
 
     /// The option's number in the matches.
@@ -59,6 +67,14 @@ impl<'a> OptionLine<'a> {
         ensures { result ≡ number_in (option_of self.entry) (matches_in matches.now) }
     {
         matches.get_one(self.name).unwrap()
+    }
+
+    /// The option's number in the matches, if the words give one.
+    pub(crate) fn number_found(self, matches: &ArgMatches<'_>) -> Option<u64>
+        requires { IsSome (one_of self.name.now (matches_in matches.now)) → IsSome (number_found (option_of self) (matches_in matches.now)) }
+        ensures { result ≡ number_found (option_of self.entry) (matches_in matches.now) }
+    {
+        matches.get_one(self.name)
     }
 }
 
@@ -106,5 +122,12 @@ impl<'a> OptionLine<'a> {
         ensures { option_of result ≡ cycles_option }
     {
         OptionLine::new("cycles", 1, MOST_CYCLES, 100_000_000, "100000000")
+    }
+
+    /// How many cycles are traced.
+    pub(crate) fn trace() -> Self
+        ensures { option_of result ≡ trace_option }
+    {
+        OptionLine::new("trace", 1, MOST_CYCLES, 0, "0")
     }
 }

@@ -19,10 +19,10 @@ abbrev pub fault_status : ToolFault → ℕ
 fault_status (fault.NoMemory who) = 1
 fault_status (fault.Usage who) = 2
 fault_status (fault.ReadFile who name) = 3
-fault_status fault.ReadInput = 3
+fault_status (fault.ReadInput who) = 3
 fault_status (fault.Source who what) = 4
 fault_status (fault.Object who what) = 4
-fault_status (fault.Input what) = 4
+fault_status (fault.Input who what) = 4
 fault_status (fault.WriteFile who name) = 5
 fault_status (fault.WriteOutput who) = 5
 fault_status (fault.Budget number) = 6

@@ -1,7 +1,10 @@
+pub mod models
 pub mod Streams
 pub mod Outside
 pub mod Files
 pub mod Objects
+pub mod Input
+pub mod Stops
 pub mod Telling
 pub mod Due
 pub mod ToldFile

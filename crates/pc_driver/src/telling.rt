@@ -40,7 +40,7 @@ fn status_of(fault: ToolFault) -> u8
     match fault {
         ToolFault::NoMemory { .. } => 1,
         ToolFault::Usage { .. } => 2,
-        ToolFault::ReadFile { .. } | ToolFault::ReadInput => 3,
+        ToolFault::ReadFile { .. } | ToolFault::ReadInput { .. } => 3,
         ToolFault::Source { .. } | ToolFault::Object { .. } | ToolFault::Input { .. } => 4,
         ToolFault::WriteFile { .. } | ToolFault::WriteOutput { .. } => 5,
         ToolFault::Budget { .. } => 6,

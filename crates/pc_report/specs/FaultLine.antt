@@ -8,7 +8,7 @@ use Rattle.pc_word.specs.declared.item.MachineFault.TheVariants.{StoreOutOfRange
 use Rattle.pc_word.specs.declared.item.TrapKind.{TrapKind}
 use Rattle.pc_word.specs.declared.item.TrapKind.TheVariants.{DivideByZero, OutOfBounds, EndOfInput}
 use Rattle.pc_report.specs.declared.fault.Speaker.{Speaker}
-use Rattle.pc_report.specs.declared.fault.Speaker.TheVariants.{Pcc, Pvm, Pview}
+use Rattle.pc_report.specs.declared.fault.Speaker.TheVariants.{Pcc, Pvm, Pview, Pstat}
 use Rattle.pc_report.specs.declared.fault.LineFault.{LineFault}
 use Rattle.pc_report.specs.declared.fault.LineFault.TheVariants as at_line
 use Rattle.pc_report.specs.declared.fault.SourceFault.{SourceFault}
@@ -26,12 +26,14 @@ abbrev pub speaker_text : Speaker → List ℕ
 speaker_text Pcc = codes "pcc"
 speaker_text Pvm = codes "pvm"
 speaker_text Pview = codes "pview"
+speaker_text Pstat = codes "pstat"
 
 -- how a program is called
 abbrev pub usage_text : Speaker → List ℕ
 usage_text Pcc = codes "usage: pcc SRC -o OBJ [--ops N] [--tests N] [--mem N] [--window N] [--rows N] [--report]"
 usage_text Pvm = codes "usage: pvm OBJ [--cycles N]"
 usage_text Pview = codes "usage: pview OBJ [--dot]"
+usage_text Pstat = codes "usage: pstat OBJ [--cycles N] [--rows | --trace N | --dot | --json]"
 
 -- what is wrong at a line of a source
 abbrev pub line_fault_text : LineFault → List ℕ
@@ -122,10 +124,10 @@ abbrev pub tool_fault_text : ToolFault → List ℕ
 tool_fault_text (tool.NoMemory who) = speaker_text who ++ codes ": out of memory"
 tool_fault_text (tool.Usage who) = usage_text who
 tool_fault_text (tool.ReadFile who name) = read_failed_text who name.now
-tool_fault_text tool.ReadInput = read_failed_text Pvm (codes "input")
+tool_fault_text (tool.ReadInput who) = read_failed_text who (codes "input")
 tool_fault_text (tool.Source who fault) = speaker_text who ++ (codes ": source: " ++ source_fault_text fault)
 tool_fault_text (tool.Object who fault) = speaker_text who ++ (codes ": object: " ++ object_fault_text fault)
-tool_fault_text (tool.Input fault) = codes "pvm: input: " ++ input_fault_text fault
+tool_fault_text (tool.Input who fault) = speaker_text who ++ (codes ": input: " ++ input_fault_text fault)
 tool_fault_text (tool.WriteFile who name) = write_failed_text who name.now
 tool_fault_text (tool.WriteOutput who) = write_failed_text who (codes "output")
 tool_fault_text (tool.Budget number) = codes "pvm: budget of " ++ (decimal number ++ codes " cycles spent")

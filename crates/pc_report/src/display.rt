@@ -14,6 +14,7 @@ impl fmt::Display for Speaker {
             Speaker::Pcc => "pcc",
             Speaker::Pvm => "pvm",
             Speaker::Pview => "pview",
+            Speaker::Pstat => "pstat",
         })
     }
 }
@@ -94,6 +95,7 @@ fn usage(who: Speaker) -> &'static str
         }
         Speaker::Pvm => "usage: pvm OBJ [--cycles N]",
         Speaker::Pview => "usage: pview OBJ [--dot]",
+        Speaker::Pstat => { "usage: pstat OBJ [--cycles N] [--rows | --trace N | --dot | --json]" }
     }
 }
 
@@ -105,10 +107,10 @@ impl fmt::Display for ToolFault<'_> {
             ToolFault::NoMemory { who } => write!(f, "{who}: out of memory"),
             ToolFault::Usage { who } => f.write_str(usage(*who)),
             ToolFault::ReadFile { who, name } => write!(f, "{who}: read failed: {name}"),
-            ToolFault::ReadInput => f.write_str("pvm: read failed: input"),
+            ToolFault::ReadInput { who } => write!(f, "{who}: read failed: input"),
             ToolFault::Source { who, fault } => write!(f, "{who}: source: {fault}"),
             ToolFault::Object { who, fault } => write!(f, "{who}: object: {fault}"),
-            ToolFault::Input { fault } => write!(f, "pvm: input: {fault}"),
+            ToolFault::Input { who, fault } => write!(f, "{who}: input: {fault}"),
             ToolFault::WriteFile { who, name } => write!(f, "{who}: write failed: {name}"),
             ToolFault::WriteOutput { who } => write!(f, "{who}: write failed: output"),
             ToolFault::Budget { number } => write!(f, "pvm: budget of {number} cycles spent"),

@@ -11,6 +11,8 @@ pub enum Speaker {
     Pvm,
     /// The viewer.
     Pview,
+    /// The profiler.
+    Pstat,
 }
 
 /// Why a program does not end with success. It borrows the name of a file.
@@ -22,14 +24,14 @@ pub enum ToolFault<'a> {
     Usage { who: Speaker },
     /// A file was not read.
     ReadFile { who: Speaker, name: &'a str },
-    /// The simulator's input was not read.
-    ReadInput,
+    /// The input was not read.
+    ReadInput { who: Speaker },
     /// The source is refused.
     Source { who: Speaker, fault: SourceFault },
     /// The object is refused.
     Object { who: Speaker, fault: ObjectFault },
-    /// The simulator's input is refused.
-    Input { fault: InputFault },
+    /// The input is refused.
+    Input { who: Speaker, fault: InputFault },
     /// A file was not written.
     WriteFile { who: Speaker, name: &'a str },
     /// The output was not written.

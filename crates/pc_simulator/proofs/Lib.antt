@@ -1,3 +1,2 @@
-pub mod Simulations
 pub mod SimulatorEndings
 pub mod SimulatorStatuses

@@ -1,7 +1,6 @@
 -- How the simulator ends, put together from what its steps leave.
 use Rattle.std.proofs.Common.{◌≡◌, ℕ, ◌+◌, ◌⊎◌, inl, inr, List, Option, Some, None, refl, sym, ◌∙◌, ap, subst}
 use Rattle.std.specs.Prelude.{ℤ, IsSome}
-use Rattle.std.specs.Borrow.{Bor}
 use Rattle.std.specs.Io.KnownBytes.{Appends}
 use Rattle.pc_word.specs.declared.item.End.{End}
 use Rattle.pc_word.specs.Count.{Rose}
@@ -15,8 +14,6 @@ use Rattle.pc_outside.specs.Stream.{AppendsPart, LosesFront}
 use Rattle.pc_word.specs.MachineLimits.{most_input}
 use Rattle.pc_command.specs.Requests.{SimulateRequest}
 use Rattle.pc_report.specs.declared.fault.Speaker.TheVariants.{Pvm}
-use Rattle.pc_report.specs.declared.fault.ObjectFault.{ObjectFault}
-use Rattle.pc_report.specs.declared.fault.InputFault.{InputFault}
 use Rattle.pc_report.specs.declared.fault.ToolFault.{ToolFault}
 use Rattle.pc_report.specs.declared.fault.ToolFault.TheVariants as fault
 use Rattle.pc_vm.specs.Standing.{Standing, here_of}
@@ -24,13 +21,14 @@ use Rattle.pc_driver.specs.Due.{Told}
 use Rattle.pc_driver.specs.Objects.{HoldsObject}
 use Rattle.pc_driver.specs.Streams.{Streamed}
 use Rattle.pc_driver.specs.Outside.{Outside}
-use Rattle.pc_simulator.specs.Simulation.{Loaded, due_of, run_seen}
+use Rattle.pc_driver.specs.Input.{Loaded}
+use Rattle.pc_simulator.specs.Simulation.{due_of, run_seen}
 use Rattle.pc_simulator.specs.Simulator.{SimulatorEnds, Ran, Misused, Unread, Refused, Untaken, Misspelt, Broke, Lacking}
 use Rattle.pc_simulator.specs.Simulator.{SimulatorLacks, Untouched, Loading, Telling, SimulatorPromise}
-use Rattle.pc_simulator.specs.declared.stop.Stop.{Stop}
-use Rattle.pc_simulator.specs.declared.stop.Stop.TheVariants as stop
-use Rattle.pc_simulator.specs.models.Simulating.{StopsAtObject, StopsAtInput}
-use Rattle.pc_simulator.specs.models.Simulating.{StopsEarly, StopEnds, Due_memory, Due_object_read, Due_object, Due_input_read, Due_input, Ready, RunEnds, Told_whole, Told_part}
+use Rattle.pc_driver.specs.declared.stop.Stop.{Stop}
+use Rattle.pc_driver.specs.declared.stop.Stop.TheVariants as stop
+use Rattle.pc_driver.specs.Stops.{StopsAtInput, StopsAtObject, StopsEarly, StopEnds, Due_memory, Due_object_read, Due_object, Due_input_read, Due_input}
+use Rattle.pc_simulator.specs.models.Simulating.{Ready, RunEnds, Told_whole, Told_part}
 use Rattle.pc_driver.proofs.Streams.{sends_all, sends_part}
 
 -- ---- each step
@@ -47,7 +45,7 @@ no_command_ends given old input out none =
 
 module _ (request : SimulateRequest) (old new : Shelved) (input input_now out : Streamed) where
   -- no object was loaded
-  object_ends : (why : Stop) (due : ToolFault) → StopsAtObject request.object old new why → input_now ≡ input → StopEnds request.object why due
+  object_ends : (why : Stop) (due : ToolFault) → StopsAtObject request.object old new why → input_now ≡ input → StopEnds Pvm request.object why due
       → SimulatorEnds old new input input_now out out (Some request) (Some due)
   object_ends stop.Memory due h same Due_memory = Lacking (Untouched same refl)
   object_ends stop.ReadObject due h same (Due_object_read {word} is) = Unread is (subst (λ name. ReadFaultOf old new name) is h) same refl
@@ -56,7 +54,7 @@ module _ (request : SimulateRequest) (old new : Shelved) (input input_now out : 
   object_ends (stop.Input what) due h same ends = absurd h
 
   -- an object was, and the input gave no numbers
-  input_ends : (why : Stop) (due : ToolFault) → HoldsObject old.held request.object → StopsAtInput input input_now why → StopEnds request.object why due
+  input_ends : (why : Stop) (due : ToolFault) → HoldsObject old.held request.object → StopsAtInput input input_now why → StopEnds Pvm request.object why due
       → SimulatorEnds old new input input_now out out (Some request) (Some due)
   input_ends stop.Memory due object h Due_memory = Lacking (Loading object refl)
   input_ends stop.ReadInput due object h Due_input_read = Untaken object h refl
@@ -65,7 +63,7 @@ module _ (request : SimulateRequest) (old new : Shelved) (input input_now out : 
   input_ends (stop.Object what) due object h ends = absurd h
 
   -- there was no run
-  pub stop_ends : (why : Stop) (due : ToolFault) → StopsEarly request.object old new input input_now why → StopEnds request.object why due
+  pub stop_ends : (why : Stop) (due : ToolFault) → StopsEarly request.object old new input input_now why → StopEnds Pvm request.object why due
       → SimulatorEnds old new input input_now out out (Some request) (Some due)
   stop_ends why due (inl h) ends = object_ends why due h.0 h.1 ends
   stop_ends why due (inr h) ends = input_ends why due h.0 h.1 ends
@@ -90,24 +88,7 @@ module _ (request : SimulateRequest) (old new : Shelved) (input input_now out ou
       seen_ends due ready.object ready.placed.numbers (record { in_file = ready.in_file; in_input = ready.placed.in_input })
       (subst (λ (seen : Seen). RunEnds request.cycles seen out out_now due) (same_seen ready) ends)
 
--- ---- what is due at a stop and after a run
-
-pub due_memory : (name : List ℕ) → StopEnds name stop.Memory (fault.NoMemory Pvm)
-due_memory name = Due_memory
-
-pub due_object_read : (name : Bor (List ℕ)) → StopEnds name.now stop.ReadObject (fault.ReadFile Pvm name)
-due_object_read name = Due_object_read refl
-
-pub due_object : (name : List ℕ) (what : ObjectFault) → StopEnds name (stop.Object what) (fault.Object Pvm what)
-due_object name what = Due_object
-
-pub due_input_read : (name : List ℕ) → StopEnds name stop.ReadInput fault.ReadInput
-due_input_read name = Due_input_read
-
-pub due_input : (name : List ℕ) (what : InputFault) → StopEnds name (stop.Input what) (fault.Input what)
-due_input name what = Due_input
-
-pub ruleset stops_due = (due_memory, due_object_read, due_object, due_input_read, due_input)
+-- ---- what is due after a run
 
 pub run_whole : (cycles : ℕ) (seen : Seen) (old new : Streamed) (due : Option ToolFault) (end : Option End) → Appends old.told new.told (text_of seen.printed)
     → due ≡ due_of cycles end → end ≡ seen.end → RunEnds cycles seen old new due

@@ -19,7 +19,8 @@ use Rattle.pc_driver.specs.Files.{HoldsText}
 use Rattle.pc_driver.specs.Streams.{Streamed, SendsFront}
 use Rattle.pc_driver.specs.Outside.{Outside}
 use Rattle.pc_driver.specs.Objects.{HasObjectFault, HoldsObject}
-use Rattle.pc_simulator.specs.Simulation.{HasInputFault, Loaded, due_of, run_seen}
+use Rattle.pc_driver.specs.Input.{HasInputFault, Loaded}
+use Rattle.pc_simulator.specs.Simulation.{due_of, run_seen}
 
 -- What stands where memory ran out: nothing was taken from the input and nothing sent; or OBJ holds an object that loads, and
 -- nothing was sent; or it was run, and the front of what its run printed was sent.
@@ -69,13 +70,13 @@ pub data SimulatorEnds (old new : Shelved) (input input_now out out_now : Stream
       HoldsObject old.held request.object →
       Rose input.faults input_now.faults →
       out_now ≡ out →
-      SimulatorEnds old new input input_now out out_now (Some request) (Some fault.ReadInput)
+      SimulatorEnds old new input input_now out out_now (Some request) (Some (fault.ReadInput Pvm))
   -- OBJ holds an object that loads, and the input has bytes with this fault
   Misspelt : {request : SimulateRequest} {what : InputFault} →
       HoldsObject old.held request.object →
       IfSome input.told (λ bytes. HasInputFault bytes what) →
       out_now ≡ out →
-      SimulatorEnds old new input input_now out out_now (Some request) (Some (fault.Input what))
+      SimulatorEnds old new input input_now out out_now (Some request) (Some (fault.Input Pvm what))
   -- an object was run on the input, and a proper prefix of what its run prints was sent before the output failed
   Broke : {request : SimulateRequest} {object : CodeWithNotes} {numbers : List ℤ} →
       Loaded request.object old.held input.told object numbers →

@@ -15,7 +15,8 @@ use Rattle.pc_driver.specs.Files.{HoldsText}
 use Rattle.pc_driver.specs.ToldFile.{IsToldFile}
 use Rattle.pc_driver.specs.Objects.{IsTextOf, IsNoObject, HoldsObject}
 use Rattle.pc_driver.specs.Outside.{Outside, HasErrorFault}
-use Rattle.pc_simulator.specs.Simulation.{IsInputOf, IsNoInput, Loaded, run_seen}
+use Rattle.pc_driver.specs.Input.{IsInputOf, IsNoInput, Loaded}
+use Rattle.pc_simulator.specs.Simulation.{run_seen}
 use Rattle.pc_simulator.specs.Simulator.{SimulatorLacks, SimulatorPromise}
 
 -- the status of a run's end; a run whose cycles are spent goes on

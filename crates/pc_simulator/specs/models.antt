@@ -1,2 +1,1 @@
 pub mod Simulating
-pub mod Stops

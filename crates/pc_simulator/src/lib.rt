@@ -4,7 +4,6 @@
 mod laws;
 mod program;
 mod simulate;
-mod stop;
 
 pub use laws::laws_of_the_simulator;
 pub use program::simulator;

@@ -2,30 +2,27 @@
 ghost use Rattle.std.specs.Prelude.{◌≡◌, ◌+◌, false, Some, MatchResult};
 ghost use Rattle.pc_command.specs.Requests.{simulate_command_of, simulate_request};
 ghost use Rattle.pc_command.specs.Words.{spelled};
-ghost use Rattle.pc_object.specs.ObjectText.{object_of};
 ghost use Rattle.pc_machine.specs.MachineCode.{code_of};
 ghost use Rattle.pc_machine.specs.MachineRun.{machine_step};
 ghost use Rattle.pc_machine.specs.WellFormed.{WellFormed};
 ghost use Rattle.pc_outside.specs.Shelf.{ReadKeeps};
 ghost use Rattle.pc_outside.specs.Stream.{LosesFront};
-ghost use Rattle.pc_driver.specs.Objects.{Holds};
+ghost use Rattle.pc_driver.specs.Stops.{StopsAtInput, StopsEarly};
 ghost use Rattle.pc_driver.specs.Streams.{streamed};
-ghost use Rattle.pc_simulator.specs.Simulation.{SpellsInput, due_of};
+ghost use Rattle.pc_simulator.specs.Simulation.{due_of};
 ghost use Rattle.pc_simulator.specs.Simulator.{SimulatorEnds};
-ghost use Rattle.pc_simulator.specs.models.Simulating.{IsPlaced, Ready, RunEnds, StopEnds, StopsAtInput, StopsAtObject, StopsEarly};
+ghost use Rattle.pc_simulator.specs.models.Simulating.{IsPlaced, Ready, RunEnds};
 ghost use Rattle.pc_vm.specs.Standing.{end_of, here_of};
 ghost use Rattle.pc_word.specs.MachineLimits.{most_input};
 ghost use Rattle.pc_word.specs.Run.{run_from};
 
-use crate::stop::Stop;
 use pc_command::{CommandError, SimulateCommand, simulate_command};
-use pc_driver::read_whole;
+use pc_driver::{Stop, fault_at, load, take_numbers};
 use pc_machine::Code;
-use pc_object::{Object, decode};
-use pc_outside::{Shelf, Sink, Source, take_all};
-use pc_report::{InputFault, Speaker, ToolFault};
+use pc_outside::{Shelf, Sink, Source};
+use pc_report::{Speaker, ToolFault};
 use pc_vm::{Machine, Outcome};
-use pc_word::{End, MOST_INPUT, MOST_OBJECT, WordList, read_numbers};
+use pc_word::End;
 use std::alloc::Global;
 
 /// Simulates as the words say, and gives what is due then.
@@ -67,7 +64,7 @@ fn simulate<'a, H: Shelf, I: Source, O: Sink>(
 {
     match prepare(alloc, command.object, shelf, input) {
         Ok(mut machine) => run_machine(&mut machine, command.cycles, out),
-        Err(stop) => Some(fault_at(stop, command.object)),
+        Err(stop) => Some(fault_at(Speaker::Pvm, stop, command.object)),
     }
 }
 
@@ -104,26 +101,6 @@ fn due_of<'a>(cycles: u64, outcome: Outcome) -> Option<ToolFault<'a>>
     }
 }
 
-/// What is due where there is no run.
-#[tactic(auto, using(crate::proofs::SimulatorEndings::stops_due))]
-fn fault_at<'a>(stop: Stop, object: &'a str) -> ToolFault<'a>
-    ensures { StopEnds object.entry.now stop result }
-{
-    match stop {
-        Stop::Memory => ToolFault::NoMemory { who: Speaker::Pvm },
-        Stop::ReadObject => ToolFault::ReadFile {
-            who: Speaker::Pvm,
-            name: object,
-        },
-        Stop::Object { fault } => ToolFault::Object {
-            who: Speaker::Pvm,
-            fault,
-        },
-        Stop::ReadInput => ToolFault::ReadInput,
-        Stop::Input { fault } => ToolFault::Input { fault },
-    }
-}
-
 /// A machine at the start of the object's code, with the input's numbers.
 fn prepare<H: Shelf, I: Source>(
     alloc: Global,
@@ -141,16 +118,6 @@ fn prepare<H: Shelf, I: Source>(
     start(alloc, object.code, input)
 }
 
-/// The object of a file.
-fn load<H: Shelf>(alloc: Global, name: &str, shelf: &mut H) -> Result<Object, Stop>
-    ensures object { MatchResult result (λ object. Holds (H.state shelf.old).held name.now (object_of object))
-        (λ stop. StopsAtObject name.now (H.state shelf.old) (H.state shelf.new) stop) }
-    ensures shelf { ReadKeeps (H.state shelf.old) (H.state shelf.new) }
-{
-    let bytes = read_whole(alloc, name, MOST_OBJECT, shelf)?;
-    Ok(decode(alloc, bytes.as_slice())?)
-}
-
 /// A machine at the start of a code, with the input's numbers.
 fn start<I: Source>(alloc: Global, code: Code, input: &mut I) -> Result<Machine, Stop>
     requires { WellFormed (code_of code) }
@@ -160,19 +127,4 @@ fn start<I: Source>(alloc: Global, code: Code, input: &mut I) -> Result<Machine,
 {
     let numbers = take_numbers(alloc, input)?;
     Ok(Machine::new(alloc, code, numbers)?)
-}
-
-/// The numbers of the input.
-fn take_numbers<I: Source>(alloc: Global, input: &mut I) -> Result<WordList, Stop>
-    ensures numbers { MatchResult result (λ numbers. SpellsInput (I.left input.old) numbers)
-        (λ stop. StopsAtInput (streamed (I.left input.old) (I.faults input.old)) (streamed (I.left input.new) (I.faults input.new)) stop) }
-    ensures lost { LosesFront (I.left input.old) (I.left input.new) (most_input + 1) }
-{
-    let bytes = take_all(alloc, input, MOST_INPUT + 1)?;
-    if bytes.len() > MOST_INPUT {
-        return Err(Stop::Input {
-            fault: InputFault::TooLong,
-        });
-    }
-    Ok(read_numbers(alloc, bytes.as_slice())?)
 }

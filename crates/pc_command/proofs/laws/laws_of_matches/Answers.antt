@@ -1,5 +1,5 @@
 -- The laws are lemmas.
-use Rattle.pc_command.proofs.Whole.{compile_matches-whole, simulate_matches-whole, view_matches-whole}
+use Rattle.pc_command.proofs.Whole.{compile_matches-whole, simulate_matches-whole, stat_matches-whole, view_matches-whole}
 use Rattle.pc_command.proofs.laws.laws_of_matches.Goals as goal
 
 pub returns-clause-compiler : goal.returns-clause-compiler
@@ -10,3 +10,6 @@ returns-clause-simulator c = simulate_matches-whole
 
 pub returns-clause-viewer : goal.returns-clause-viewer
 returns-clause-viewer c = view_matches-whole
+
+pub returns-clause-profiler : goal.returns-clause-profiler
+returns-clause-profiler c = stat_matches-whole

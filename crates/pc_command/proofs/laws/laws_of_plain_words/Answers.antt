@@ -1,5 +1,5 @@
 -- The laws are lemmas.
-use Rattle.pc_command.proofs.PlainWords.{no_words-command, plain_word-simulates, plain_word-views, plain_words-compile}
+use Rattle.pc_command.proofs.PlainWords.{no_words-command, plain_word-profiles, plain_word-simulates, plain_word-views, plain_words-compile}
 use Rattle.pc_command.proofs.laws.laws_of_plain_words.Goals as goal
 
 pub returns-clause-compiler : goal.returns-clause-compiler
@@ -10,6 +10,9 @@ returns-clause-simulator c = plain_word-simulates
 
 pub returns-clause-viewer : goal.returns-clause-viewer
 returns-clause-viewer c = plain_word-views
+
+pub returns-clause-profiler : goal.returns-clause-profiler
+returns-clause-profiler c = plain_word-profiles
 
 pub returns-clause-no_words : goal.returns-clause-no_words
 returns-clause-no_words c = no_words-command

@@ -1,5 +1,5 @@
 -- The laws are lemmas.
-use Rattle.pc_command.proofs.InRange.{compile_command_of-range, simulate_command_of-range}
+use Rattle.pc_command.proofs.InRange.{compile_command_of-range, simulate_command_of-range, stat_command_of-range}
 use Rattle.pc_command.proofs.laws.laws_of_ranges.Goals as goal
 
 pub returns-clause-compiler : goal.returns-clause-compiler
@@ -7,3 +7,6 @@ returns-clause-compiler c = compile_command_of-range
 
 pub returns-clause-simulator : goal.returns-clause-simulator
 returns-clause-simulator c = simulate_command_of-range
+
+pub returns-clause-profiler : goal.returns-clause-profiler
+returns-clause-profiler c = stat_command_of-range

@@ -1,4 +1,4 @@
--- What the refusals of a step are to the simulator. Want of memory stays want of memory.
+-- What the refusals of a step are to a program that runs an object. Want of memory stays want of memory.
 use Rattle.std.specs.Prelude.{Option, Some, None}
 use Rattle.pc_word.specs.declared.number_text.NumbersError.{NumbersError}
 use Rattle.pc_word.specs.declared.number_text.NumbersError.TheVariants as numbers
@@ -11,8 +11,8 @@ use Rattle.pc_report.specs.declared.fault.InputFault.TheVariants as input
 use Rattle.pc_driver.specs.Objects.{told_of_object}
 use Rattle.pc_driver.specs.declared.file.FileError.{FileError}
 use Rattle.pc_driver.specs.declared.file.FileError.TheVariants as file
-use Rattle.pc_simulator.specs.declared.stop.Stop.{Stop}
-use Rattle.pc_simulator.specs.declared.stop.Stop.TheVariants as stop
+use Rattle.pc_driver.specs.declared.stop.Stop.{Stop}
+use Rattle.pc_driver.specs.declared.stop.Stop.TheVariants as stop
 
 -- the stop at an object with a fault, if it has one, and else want of memory
 abbrev pub stop_at : Option ObjectFault → Stop

@@ -1,30 +1,48 @@
-//! Why the simulator came to no run.
+//! Why a program came to no run of an object on an input.
 ghost use Rattle.std.specs.Prelude.{◌≡◌};
-ghost use Rattle.pc_simulator.specs.models.Stops.{stop_of_file, stop_of_object, stop_of_take, stop_of_numbers};
-ghost use Rattle.pc_simulator.specs.declared.stop.Stop.TheVariants.{Memory};
+ghost use Rattle.pc_driver.specs.Stops.{StopEnds};
+ghost use Rattle.pc_driver.specs.models.Refusals.{stop_of_file, stop_of_object, stop_of_take, stop_of_numbers};
+ghost use Rattle.pc_driver.specs.declared.stop.Stop.TheVariants.{Memory};
 
-use pc_driver::FileError;
+use crate::file::FileError;
 use pc_object::ObjectError;
 use pc_outside::TakeError;
-use pc_report::{InputFault, ObjectFault};
+use pc_report::{InputFault, ObjectFault, Speaker, ToolFault};
 use pc_word::{NumbersError, OutOfMemory};
 use thiserror::Error;
 
-/// Why the simulator came to no run.
+/// Why a program came to no run of an object on an input.
 #[derive(Clone, Copy, Debug, PartialEq, Eq, Error)]
-pub(crate) enum Stop {
+pub enum Stop {
+    /// Memory ran out.
     #[error("out of memory")]
     Memory,
+    /// The object's file was not read.
     #[error("the object could not be read")]
     ReadObject,
     /// The object is read, but not loaded.
     #[error("the object is not loaded")]
     Object { fault: ObjectFault },
+    /// The input was not read.
     #[error("the input could not be read")]
     ReadInput,
     /// The input is read, but gives no numbers.
     #[error("the input gives no numbers")]
     Input { fault: InputFault },
+}
+
+/// What is due where a program came to no run of the object in a file of this name.
+#[tactic(auto, using(crate::proofs::Taken::stops_due))]
+pub fn fault_at<'a>(who: Speaker, stop: Stop, object: &'a str) -> ToolFault<'a>
+    ensures { StopEnds who object.entry.now stop result }
+{
+    match stop {
+        Stop::Memory => ToolFault::NoMemory { who },
+        Stop::ReadObject => ToolFault::ReadFile { who, name: object },
+        Stop::Object { fault } => ToolFault::Object { who, fault },
+        Stop::ReadInput => ToolFault::ReadInput { who },
+        Stop::Input { fault } => ToolFault::Input { who, fault },
+    }
 }
 
 impl From<FileError> for Stop {

@@ -4,8 +4,8 @@ use Rattle.std.proofs.lemmas.Result.{err_from_is_err_and}
 use Rattle.pc_word.specs.Exact.{IsRefusal}
 use Rattle.pc_object.specs.Cause.{object_cause}
 use Rattle.pc_object.specs.Reading.{object_reading}
-use Rattle.pc_simulator.proofs.Simulations.{file_stops, object_stops}
-use Rattle.pc_simulator.proofs.simulate.load.Goals as goal
+use Rattle.pc_driver.proofs.Taken.{file_stops, object_stops}
+use Rattle.pc_driver.proofs.loading.load.Goals as goal
 
 pub returns-in_err-bytes-clause-object : goal.returns-in_err-bytes-clause-object
 returns-in_err-bytes-clause-object g c =

@@ -8,7 +8,7 @@ use Rattle.pc_word.specs.declared.number_text.NumbersError.TheVariants as number
 use Rattle.pc_word.specs.NumberText.{numbers_in, IsNumbersRefusal}
 use Rattle.pc_outside.specs.Stream.{TakesFirst, LosesFront}
 use Rattle.pc_word.specs.MachineLimits.{most_input, most_object}
-use Rattle.pc_simulator.specs.declared.stop.Stop.TheVariants as stop
+use Rattle.pc_driver.specs.declared.stop.Stop.TheVariants as stop
 use Rattle.pc_word.specs.Exact.{IsRefusal}
 use Rattle.pc_object.specs.Cause.{object_cause}
 use Rattle.pc_object.specs.Reading.{object_reading}
@@ -21,12 +21,17 @@ use Rattle.pc_report.specs.declared.fault.InputFault.TheVariants as input_fault
 use Rattle.pc_driver.specs.Files.{HasText}
 use Rattle.pc_driver.specs.Streams.{Streamed}
 use Rattle.pc_driver.specs.Objects.{HasObjectFault, Long_object, Unread_object, told_of_object}
-use Rattle.pc_simulator.specs.Simulation.{HasInputFault, Long_input, Misspelt_input, SpellsInput}
+use Rattle.pc_driver.specs.Input.{HasInputFault, Long_input, Misspelt_input, SpellsInput}
 use Rattle.pc_driver.specs.declared.file.FileError.{FileError}
 use Rattle.pc_driver.specs.declared.file.FileError.TheVariants as file
 use Rattle.pc_driver.specs.Files.{RefusesFile}
-use Rattle.pc_simulator.specs.models.Stops.{stop_of_file, stop_of_numbers, stop_of_object}
-use Rattle.pc_simulator.specs.models.Simulating.{StopsAtInput, StopsAtObject}
+use Rattle.pc_driver.specs.models.Refusals.{stop_of_file, stop_of_numbers, stop_of_object}
+use Rattle.pc_driver.specs.Stops.{StopsAtInput, StopsAtObject}
+use Rattle.pc_driver.specs.Stops.{StopEnds, Due_memory, Due_object_read, Due_object, Due_input_read, Due_input}
+use Rattle.pc_report.specs.declared.fault.InputFault.{InputFault}
+use Rattle.pc_report.specs.declared.fault.Speaker.{Speaker}
+use Rattle.pc_report.specs.declared.fault.ToolFault.TheVariants as due_fault
+use Rattle.std.specs.Borrow.{Bor}
 use Rattle.pc_driver.proofs.Files.{held_map, holds}
 
 -- ---- the bytes that a read gives
@@ -108,3 +113,22 @@ loses (Some bytes) new most all t = record {
   bound = let n : length (take most bytes) ≡ min most (length bytes) = length-take most bytes in omega arith;
   gone = subst (λ (rest : Option (List ℕ)). Consumes (Some bytes) rest (take most bytes)) (sym t.lost) (sym (take-append-drop most bytes));
 }
+
+-- ---- what is due at a stop
+
+pub due_memory : (who : Speaker) (name : List ℕ) → StopEnds who name stop.Memory (due_fault.NoMemory who)
+due_memory who name = Due_memory
+
+pub due_object_read : (who : Speaker) (name : Bor (List ℕ)) → StopEnds who name.now stop.ReadObject (due_fault.ReadFile who name)
+due_object_read who name = Due_object_read refl
+
+pub due_object : (who : Speaker) (name : List ℕ) (what : ObjectFault) → StopEnds who name (stop.Object what) (due_fault.Object who what)
+due_object who name what = Due_object
+
+pub due_input_read : (who : Speaker) (name : List ℕ) → StopEnds who name stop.ReadInput (due_fault.ReadInput who)
+due_input_read who name = Due_input_read
+
+pub due_input : (who : Speaker) (name : List ℕ) (what : InputFault) → StopEnds who name (stop.Input what) (due_fault.Input who what)
+due_input who name what = Due_input
+
+pub ruleset stops_due = (due_memory, due_object_read, due_object, due_input_read, due_input)

@@ -3,8 +3,8 @@ use Rattle.std.specs.Prelude.{Ok}
 use Rattle.std.proofs.lemmas.Result.{err_from_is_err_and}
 use Rattle.pc_word.specs.MachineLimits.{most_input}
 use Rattle.pc_word.specs.NumberText.{numbers_in, IsNumbersRefusal}
-use Rattle.pc_simulator.proofs.Simulations.{gives, long_input, refused_numbers, loses}
-use Rattle.pc_simulator.proofs.simulate.take_numbers.Goals as goal
+use Rattle.pc_driver.proofs.Taken.{gives, long_input, refused_numbers, loses}
+use Rattle.pc_driver.proofs.loading.take_numbers.Goals as goal
 
 -- the input is too long
 pub returns-then-len-gt-MOST_INPUT-clause-numbers : goal.returns-then-len-gt-MOST_INPUT-clause-numbers
