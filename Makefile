@@ -9,7 +9,7 @@
 # make try SRC=my.c IN=numbers      compiles a program of your own, and runs it on the numbers of a file
 # make unproved     makes the programs in build/unproved/, in some minutes
 
-PROGRAMS = pcc pvm pview
+PROGRAMS = pcc pvm pview pstat
 PREFIX = /usr/local
 INSTALL = install
 
@@ -17,6 +17,7 @@ INSTALL = install
 pcc_words = data/seven.c -o /dev/null
 pvm_words = data/seven.tv
 pview_words = data/seven.tv
+pstat_words = data/sum.tv
 
 all: $(PROGRAMS:%=build/%)
 

@@ -2,8 +2,8 @@
 
 use crate::words::words_of;
 use pc_command::{
-    CommandError, CompileCommand, SourceName, compile_command, laws_of_matches,
-    laws_of_plain_words, laws_of_ranges, simulate_command, view_command,
+    CommandError, CompileCommand, SourceName, StatMode, compile_command, laws_of_matches,
+    laws_of_plain_words, laws_of_ranges, simulate_command, stat_command, view_command,
 };
 use pc_word::{Extent, Limits};
 use std::alloc::{AllocError, Global};
@@ -93,6 +93,39 @@ static DOTS: [(&str, bool); 3] = [("y", false), ("y --dot", true), ("--dot -- y"
 /// Words that the viewer refuses.
 static NO_VIEW: [&str; 5] = ["", "y z", "y --dot --dot", "y --dot=yes", "y --help"];
 
+/// What the words of the profiler give: how many cycles the run may take, and which text is asked for.
+static MODES: [(&str, u64, StatMode); 6] = [
+    ("y", 100_000_000, StatMode::Summary),
+    ("--rows y --cycles 1", 1, StatMode::Rows),
+    ("y --trace 1 --cycles=12", 12, StatMode::Trace { cycles: 1 }),
+    (
+        "--trace=+01000000000000 y",
+        100_000_000,
+        StatMode::Trace {
+            cycles: 1_000_000_000_000,
+        },
+    ),
+    ("--dot -- y", 100_000_000, StatMode::Dot),
+    ("y --json", 100_000_000, StatMode::Json),
+];
+
+/// Words that the profiler refuses.
+static NO_STAT: [&str; 13] = [
+    "",
+    "y z",
+    "y --cycles 0",
+    "y --trace",
+    "y --trace 0",
+    "y --trace 1000000000001",
+    "y --trace 5 --trace 5",
+    "y --rows --dot",
+    "y --json --rows",
+    "y --trace 5 --json",
+    "y --dot --trace 5",
+    "y --rows=yes",
+    "y --help",
+];
+
 /// Whether the compiler answers a line so.
 fn compiles_as(
     alloc: Global,
@@ -165,6 +198,28 @@ fn compiler_refuses(rt: HostRuntime) -> Result<(), Fail> {
             compiles_as(rt.alloc(), line, Err(CommandError::NoCommand))?,
             "{line}"
         );
+    }
+    Ok(())
+}
+
+#[test]
+fn profiler_takes(rt: HostRuntime) -> Result<(), Fail> {
+    for (line, cycles, mode) in MODES.iter() {
+        let words = words_of(rt.alloc(), line)?;
+        let command = stat_command(rt.alloc(), words.as_slice())?;
+        assert_eq!(rt; command.object, "y");
+        assert_eq!(rt; command.cycles, *cycles);
+        assert_eq!(rt; command.mode, *mode);
+    }
+    Ok(())
+}
+
+#[test]
+fn profiler_refuses(rt: HostRuntime) -> Result<(), Fail> {
+    for line in NO_STAT.iter() {
+        let words = words_of(rt.alloc(), line)?;
+        let answer = stat_command(rt.alloc(), words.as_slice());
+        assert!(rt; answer == Err(CommandError::NoCommand), "{line}");
     }
     Ok(())
 }

@@ -8,6 +8,8 @@ mod driver;
 #[cfg(test)]
 mod outside;
 #[cfg(test)]
+mod profiler;
+#[cfg(test)]
 mod report;
 #[cfg(test)]
 mod view;

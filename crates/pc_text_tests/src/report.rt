@@ -57,7 +57,10 @@ static SIMULATOR: [(ToolFault<'static>, &str); 7] = [
         },
         "pvm: read failed: b.tv\n",
     ),
-    (ToolFault::ReadInput, "pvm: read failed: input\n"),
+    (
+        ToolFault::ReadInput { who: Speaker::Pvm },
+        "pvm: read failed: input\n",
+    ),
     (
         ToolFault::WriteFile {
             who: Speaker::Pvm,
@@ -101,6 +104,41 @@ static VIEWER: [(ToolFault<'static>, &str); 4] = [
             who: Speaker::Pview,
         },
         "pview: write failed: output\n",
+    ),
+];
+
+/// The faults of the profiler.
+static PROFILER: [(ToolFault<'static>, &str); 5] = [
+    (
+        ToolFault::NoMemory {
+            who: Speaker::Pstat,
+        },
+        "pstat: out of memory\n",
+    ),
+    (
+        ToolFault::Usage {
+            who: Speaker::Pstat,
+        },
+        "usage: pstat OBJ [--cycles N] [--rows | --trace N | --dot | --json]\n",
+    ),
+    (
+        ToolFault::ReadInput {
+            who: Speaker::Pstat,
+        },
+        "pstat: read failed: input\n",
+    ),
+    (
+        ToolFault::Input {
+            who: Speaker::Pstat,
+            fault: InputFault::NotNumber { offset: 3 },
+        },
+        "pstat: input: not a number at offset 3\n",
+    ),
+    (
+        ToolFault::WriteOutput {
+            who: Speaker::Pstat,
+        },
+        "pstat: write failed: output\n",
     ),
 ];
 
@@ -334,6 +372,9 @@ fn tells_faults_without_a_kind(rt: HostRuntime) -> Result<(), Fail> {
     for (fault, line) in VIEWER.iter() {
         assert!(rt; tells(alloc, *fault, line)?, "{line}");
     }
+    for (fault, line) in PROFILER.iter() {
+        assert!(rt; tells(alloc, *fault, line)?, "{line}");
+    }
     Ok(())
 }
 
@@ -379,7 +420,8 @@ fn tells_faults_of_objects(rt: HostRuntime) -> Result<(), Fail> {
 fn tells_faults_of_runs(rt: HostRuntime) -> Result<(), Fail> {
     let alloc = rt.alloc();
     for (fault, line) in INPUTS.iter() {
-        let fault = ToolFault::Input { fault: *fault };
+        let who = Speaker::Pvm;
+        let fault = ToolFault::Input { who, fault: *fault };
         assert!(rt; tells(alloc, fault, line)?, "{line}");
     }
     for (fault, line) in MACHINE_FAULTS.iter() {
@@ -401,6 +443,7 @@ fn tells_want_of_memory_without_memory(rt: HostRuntime) {
     assert!(rt; out_of_memory_line(Speaker::Pcc) == b"pcc: out of memory\n".as_slice());
     assert!(rt; out_of_memory_line(Speaker::Pvm) == b"pvm: out of memory\n".as_slice());
     assert!(rt; out_of_memory_line(Speaker::Pview) == b"pview: out of memory\n".as_slice());
+    assert!(rt; out_of_memory_line(Speaker::Pstat) == b"pstat: out of memory\n".as_slice());
 }
 
 /// The report of a compilation with two passes and a note of each choice.

@@ -28,7 +28,7 @@ digraph rows {\n\
 }\n";
 
 /// It prints the sum of its input.
-const SUM: [u8; 49] = [
+pub(crate) const SUM: [u8; 49] = [
     0x50, 0x54, 0x56, 0x31, 0x08, 0x03, 0x02, 0x00, 0x00, 0x00, 0x00, 0x03, 0x26, 0x01, 0x01, 0x00,
     0x00, 0x00, 0x01, 0x10, 0x00, 0x01, 0x25, 0x00, 0x01, 0x00, 0x00, 0x00, 0x02, 0x24, 0x00, 0x02,
     0x02, 0x20, 0x00, 0x02, 0x00, 0x02, 0x00, 0x00, 0x26, 0x01, 0x01, 0x00, 0x00, 0x00, 0x01, 0x00,
@@ -245,7 +245,7 @@ fn shows_objects(rt: HostRuntime) -> Result<(), Fail> {
 }
 
 /// The sum of three numbers.
-const SUM_TALLIED: &str = "\
+pub(crate) const SUM_TALLIED: &str = "\
 limits of a row: 8 items, 3 tests, 2 loads and stores; arrays: none\n\
 row 0: 1 of 8 items, 0 of 3 tests, 0 of 2 loads and stores; from rows: none; cycles: 1\n\
 \x20   r1 = more()\n\
@@ -261,7 +261,7 @@ row 2: 2 of 8 items, 0 of 3 tests, 0 of 2 loads and stores; from rows: 1; cycles
 \x20   r1 = more()\n\
 \x20   goto row 1; taken: 3\n";
 
-const SUM_SHADED: &str = "\
+pub(crate) const SUM_SHADED: &str = "\
 digraph rows {\n\
 \x20   node [shape=record];\n\
 \x20   0 [style=filled, fillcolor=\"0.000 0.12 1.000\", label=\"{row 0; cycles: 1|r1 = more()|<p> goto row 1}\"];\n\

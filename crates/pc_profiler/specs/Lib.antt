@@ -1,0 +1,4 @@
+pub mod models
+pub mod Cost
+pub mod Profiler
+pub mod ProfilerLaws
