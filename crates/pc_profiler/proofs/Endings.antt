@@ -69,15 +69,10 @@ module _ (request : StatRequest) (old new : Shelved) (input input_now out : Stre
   input_ends (stop.Object what) due object h ends = absurd h
 
   -- there was no run
-  stops : (why : Stop) (due : ToolFault) → StopsEarly request.object old new input input_now why → StopEnds Pstat request.object why due
+  pub stop_ends : (why : Stop) (due : ToolFault) → StopsEarly request.object old new input input_now why → StopEnds Pstat request.object why due
       → ProfilerEnds old new input input_now out out (Some request) (Some due)
-  stops why due (inl h) ends = object_ends why due h.0 h.1 ends
-  stops why due (inr h) ends = input_ends why due h.0 h.1 ends
-
-  pub stop_ends : (out_now : Streamed) (why : Stop) (due : ToolFault) → StopsEarly request.object old new input input_now why
-      → StopEnds Pstat request.object why due → out_now ≡ out → ProfilerEnds old new input input_now out out_now (Some request) (Some due)
-  stop_ends out_now why due stopped ends same =
-      subst (λ (now : Streamed). ProfilerEnds old new input input_now out now (Some request) (Some due)) (sym same) (stops why due stopped ends)
+  stop_ends why due (inl h) ends = object_ends why due h.0 h.1 ends
+  stop_ends why due (inr h) ends = input_ends why due h.0 h.1 ends
 
   -- there was one
   pub text_ends : (out_now : Streamed) (text : List ℕ) (due : Option ToolFault) → TellsCost request old.held input.told text
@@ -120,4 +115,4 @@ profiler_promise given old new due code ends shelf lost (inr told) = record {
   lost = lost;
 }
 
-pub ruleset profiler_endings = (no_memory_ends, no_command_ends, stop_ends, text_ends)
+pub ruleset profiler_endings = (no_memory_ends, no_command_ends, text_ends)
