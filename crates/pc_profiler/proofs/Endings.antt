@@ -1,10 +1,9 @@
 -- How the profiler ends, put together from what its steps leave.
 use Rattle.std.proofs.Common.{◌≡◌, ℕ, ◌+◌, ◌⊎◌, inl, inr, List, Option, Some, None, refl, sym, subst}
-use Rattle.std.specs.Prelude.{ℤ, IsSome}
+use Rattle.std.specs.Prelude.{IsSome}
 use Rattle.std.specs.Io.KnownBytes.{Appends}
 use Rattle.pc_word.specs.Count.{Rose}
 use Rattle.pc_word.specs.MachineLimits.{most_input}
-use Rattle.pc_object.specs.ObjectText.{CodeWithNotes}
 use Rattle.pc_outside.specs.Shelf.{Shelved, ReadFaultOf, ReadKeeps}
 use Rattle.pc_outside.specs.Stream.{AppendsPart, LosesFront}
 use Rattle.pc_command.specs.Requests.{StatRequest}

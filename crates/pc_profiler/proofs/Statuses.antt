@@ -1,6 +1,6 @@
 -- What follows from the profiler's promise.
 use Rattle.std.proofs.Common.{◌≡◌, ℕ, ◌≤◌, ◌⊎◌, inl, inr, List, Option, Some, None, refl, sym, subst, arith}
-use Rattle.std.specs.Prelude.{ℤ, IfSome}
+use Rattle.std.specs.Prelude.{ℤ}
 use Rattle.std.specs.Option.{IsSomeAnd}
 use Rattle.pc_object.specs.ObjectText.{CodeWithNotes}
 use Rattle.pc_outside.specs.Shelf.{ReadFaultOf}
