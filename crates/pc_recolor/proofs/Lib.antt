@@ -4,4 +4,6 @@ pub mod Steps
 pub mod Form
 pub mod Checked
 pub mod Tables
+pub mod Texts
+pub mod Named
 pub mod Recolored

@@ -1,35 +1,18 @@
--- What a code is whose registers were chosen anew.
-use Rattle.std.specs.Prelude.{ℕ, ℤ, ◌≡◌, ◌<◌, ◌≤◌, ◌⊎◌, List, length}
-use Rattle.pc_word.specs.declared.item.Item.{Item}
-use Rattle.pc_word.specs.declared.item.Operand.{Operand}
-use Rattle.pc_word.specs.Naming.{map_name, map_operands, with_dest}
-use Rattle.pc_machine.specs.MachineCode.{CodeRow, RowCode}
+-- What a code is whose registers were chosen anew, and which was tightened then.
+use Rattle.std.specs.Prelude.{ℕ, ℤ, ◌≡◌, ◌≤◌, ◌⊎◌, max, List, length}
+use Rattle.std.specs.List.{flat_map}
+use Rattle.pc_machine.specs.MachineCode.{RowCode}
 use Rattle.pc_machine.specs.MachineRun.{machine_run}
 use Rattle.pc_machine.specs.WellFormed.{WellFormed}
-use Rattle.pc_tighten.specs.Sizes.{Room, rows_room}
-use Rattle.pc_tighten.specs.Tightened.{EachIsReachable}
+use Rattle.pc_object.specs.ObjectText.{row_text}
+use Rattle.pc_tighten.specs.Tightened.{EachIsReachable, IsTightened}
 use Rattle.pc_recolor.specs.Renaming.{Renaming}
-use Rattle.pc_recolor.specs.IsRenamed.{AreRenamed, IsRenamed}
+use Rattle.pc_recolor.specs.IsRenamed.{IsRenamed}
 
--- each of so many rows does the row with its own number
-abbrev pub IsInPlace : Renaming → ℕ → Type 0
-IsInPlace renaming rows = (number : ℕ) → number < rows → renaming.origin number ≡ number
-
--- items and tests take the same room whatever registers they name
-pub record IsBlindToRegisters (room : Room) : Type 0 where
-  pub item : (dest : ℕ) (names : ℕ → ℕ) (x : Item) → room.of_item (with_dest dest (map_operands (map_name names) x)) ≡ room.of_item x
-  pub test : (names : ℕ → ℕ) (on : Operand) → room.of_test (map_name names on) ≡ room.of_test on
-
--- rows that are as they were, or do the others in place with other registers, of so many
-pub data AreRecolored (registers : ℕ) (before : List CodeRow) : List CodeRow → Type 0 where
-  As_before : AreRecolored registers before before
-  Anew : {after : List CodeRow} (renaming : Renaming) → AreRenamed registers renaming before after → IsInPlace renaming (length after)
-      → AreRecolored registers before after
-
--- the code after its registers were chosen anew
-pub record IsRecolored (before after : RowCode) : Type 0 where
-  -- it is the code before, or does it in place with other registers
-  pub does : (after ≡ before) ⊎ ((renaming : Renaming) × IsRenamed renaming before after × IsInPlace renaming (length after.rows))
+-- the code after its registers were chosen anew, where its rows may be written in so many bytes
+pub record IsRecolored (most : ℕ) (before after : RowCode) : Type 0 where
+  -- it is the code before, or does it with other registers
+  pub does : (after ≡ before) ⊎ ((renaming : Renaming) × IsRenamed renaming before after)
   pub limits : after.limits ≡ before.limits
   pub registers : after.registers ≡ before.registers
   pub arrays : after.arrays ≡ before.arrays
@@ -38,5 +21,11 @@ pub record IsRecolored (before after : RowCode) : Type 0 where
   pub runs : (input : List ℤ) (n : ℕ) → machine_run before input n ≡ machine_run after input n
   pub form : WellFormed before → WellFormed after
   pub reachable : EachIsReachable before.rows → EachIsReachable after.rows
-  -- its rows are written in no more room
-  pub room : (room : Room) → IsBlindToRegisters room → rows_room room after.rows ≤ rows_room room before.rows
+  -- its rows are written in so many bytes, or in no more than before
+  pub short : length (flat_map row_text after.rows) ≤ max most (length (flat_map row_text before.rows))
+
+-- the code was left as it was or given other registers, and was tightened then
+pub record IsRecoloredAndTightened (most : ℕ) (before after : RowCode) : Type 0 where
+  pub between : RowCode
+  pub recolored : IsRecolored most before between
+  pub tightened : IsTightened between after

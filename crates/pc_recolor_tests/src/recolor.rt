@@ -1,7 +1,7 @@
 //! Rows whose registers are chosen anew.
 
 use pc_machine::{Code, FEW_REGISTERS, Leaf, Tree, TreeList};
-use pc_recolor::recolor;
+use pc_recolor::recolor_and_tighten;
 use pc_word::{Item, LengthList, Limits, OpCode, Operand, OutOfMemory, RowTree, no_data};
 use std::alloc::{AllocError, Global};
 use std::test::Fail;
@@ -11,14 +11,29 @@ use std::test::Fail;
 enum End {
     Goto(u32),
     Stop,
+    /// A goto, in a row that ends the run where a register is 0, and does nothing then.
+    GotoUnless(u32, u32),
 }
 
 /// A row of items and an end.
 fn row(alloc: Global, items: &[Item], end: End) -> Result<Tree, AllocError> {
-    let leaf = match end {
-        End::Goto(row) => Leaf::Goto { row },
-        End::Stop => Leaf::Stop,
-    };
+    match end {
+        End::Goto(row) => steps(alloc, items, Leaf::Goto { row }),
+        End::Stop => steps(alloc, items, Leaf::Stop),
+        End::GotoUnless(register, row) => {
+            let yes = steps(alloc, items, Leaf::Goto { row })?;
+            let no = RowTree::Leaf { leaf: Leaf::Stop };
+            Ok(RowTree::Test {
+                on: Operand::Name(register),
+                yes: Box::new(alloc, yes)?,
+                no: Box::new(alloc, no)?,
+            })
+        }
+    }
+}
+
+/// Items and a leaf.
+fn steps(alloc: Global, items: &[Item], leaf: Leaf) -> Result<Tree, AllocError> {
     let mut tree = RowTree::Leaf { leaf };
     for item in items.iter().rev() {
         let next = Box::new(alloc, tree)?;
@@ -57,7 +72,7 @@ fn gives(
     rows: &[(&[Item], End)],
     due: &[(&[Item], End)],
 ) -> Result<bool, OutOfMemory> {
-    let made = recolor(alloc, code(alloc, rows)?)?;
+    let made = recolor_and_tighten(alloc, code(alloc, rows)?, 1000)?;
     let wanted = code(alloc, due)?;
     Ok(text(alloc, &made)? == text(alloc, &wanted)?)
 }
@@ -155,6 +170,27 @@ const STORE_ZERO: Item = Item::Store {
     value: Operand::Name(0),
 };
 
+const READ_THREE: Item = Item::Read { dest: 3 };
+
+const ADD_FOUR_AND_FIVE_GIVING_SIX: Item = Item::Bin {
+    op: OpCode::Add,
+    dest: 6,
+    left: Operand::Name(4),
+    right: Operand::Name(5),
+};
+
+const LESS_ONE_THREE: Item = Item::Bin {
+    op: OpCode::Sub,
+    dest: 3,
+    left: Operand::Name(3),
+    right: Operand::Lit(1),
+};
+
+const COPY_SIX_TO_FIVE: Item = Item::Copy {
+    dest: 5,
+    from: Operand::Name(6),
+};
+
 const READ_FOUR: Item = Item::Read { dest: 4 };
 
 const READ_ZERO: Item = Item::Read { dest: 0 };
@@ -170,8 +206,7 @@ static CODES: [(&[(&[Item], End)], &[(&[Item], End)]); 3] = [
         ],
         &[
             (&[SET_ZERO_TO_ONE], End::Goto(1)),
-            (&[ADD_ONE_TO_ZERO_GIVING_ZERO, PRINT_ZERO], End::Goto(2)),
-            (&[], End::Goto(1)),
+            (&[ADD_ONE_TO_ZERO_GIVING_ZERO, PRINT_ZERO], End::Goto(1)),
         ],
     ),
     // both values of a copy are needed together, so it stays
@@ -184,8 +219,8 @@ static CODES: [(&[(&[Item], End)], &[(&[Item], End)]); 3] = [
         ],
         &[
             (&[SET_ZERO_TO_SEVEN], End::Goto(1)),
-            (&[COPY_ZERO_TO_ONE], End::Goto(2)),
-            (&[ADD_ONE_TO_ZERO_GIVING_ZERO, PRINT_ONE], End::Goto(3)),
+            (&[COPY_ZERO_TO_ONE, ADD_ONE_TO_ZERO_GIVING_ZERO], End::Goto(2)),
+            (&[PRINT_ONE], End::Goto(3)),
             (&[PRINT_ZERO], End::Stop),
         ],
     ),
