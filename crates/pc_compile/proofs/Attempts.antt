@@ -1,6 +1,6 @@
 -- What the states of a search keep, and what comes of trying the form of one.
 use Rattle.std.proofs.Common.{◌≡◌, ℕ, suc, ◌+◌, ◌*◌, ◌^◌, ◌<◌, ◌≤◌, List, length, sym, ◌∙◌, ap, subst, arith}
-use Rattle.std.specs.Prelude.{nat_eq, true, Result, Ok, Err, IfOk, Option}
+use Rattle.std.specs.Prelude.{nat_eq, true, Result, Ok, Err, IfOk}
 use Rattle.std.specs.List.{list_any}
 use Rattle.pc_word.specs.declared.item.Limits.{Limits}
 use Rattle.pc_word.specs.declared.item.Extent.{Extent}

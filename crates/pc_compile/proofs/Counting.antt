@@ -1,13 +1,11 @@
 -- The bytes of an object where one region gets a form.
-use Rattle.std.proofs.Common.{◌≡◌, ◌≢◌, ℕ, zero, suc, ◌+◌, ◌*◌, ◌-◌, ◌<◌, ◌≤◌, cond, List, [], ◌∷◌, length, Option, Some, None, refl, ◌∙◌, ap, arith}
+use Rattle.std.proofs.Common.{◌≡◌, ◌≢◌, ℕ, zero, suc, ◌+◌, ◌-◌, ◌<◌, ◌≤◌, cond, List, [], ◌∷◌, length, Option, Some, None, refl, ◌∙◌, ap, arith}
 use Rattle.std.specs.Prelude.{ℤ, slice_get}
-use Rattle.pc_object.specs.Sizes.{initial_bytes}
-use Rattle.pc_object.specs.declared.version.Version.TheVariants.{Ptv2}
 use Rattle.pc_table.specs.Table.{TableTree, TableRegion, Table, tree_of, region_tree}
 use Rattle.pc_emit.specs.Emitted.{RegionForm, Plain}
 use Rattle.pc_emit.specs.Bytes.{plain_bytes, form_bytes, regions_bytes, object_bytes}
 use Rattle.pc_compile.specs.Choosing.{with_region_form, bytes_with}
-use Rattle.pc_compile.specs.models.Counting.{all_plain_bytes}
+use Rattle.pc_compile.specs.models.Counting.{all_plain_bytes, bytes_beside_rows}
 use Rattle.pc_compile.specs.models.Giving.{bytes_of}
 use Rattle.pc_word.proofs.Places.{own_number, number_apart}
 
@@ -83,7 +81,7 @@ all_plain number (region ∷ regions) = ap (λ (n : ℕ). plain_bytes region.tre
 -- an object whose regions are all plain
 pub plain_object : (table : Table) (initial : List (List ℤ))
     → object_bytes table initial (λ region. None)
-    ≡ 14 + (4 * length table.arrays + initial_bytes Ptv2 initial) + (all_plain_bytes table.regions + (2 + 13 * length table.loops))
+    ≡ bytes_beside_rows table initial + all_plain_bytes table.regions
 plain_object table initial = let plain = all_plain 0 table.regions in omega (arith, plain)
 
 module _ (table : Table) (initial : List (List ℤ)) (forms : ℕ → Option RegionForm) (region : ℕ) (there : region < length table.regions) (free : forms region ≡ None) where

@@ -1,9 +1,8 @@
 -- Codes with as many registers as their rows need.
-use Rattle.std.proofs.Common.{◌≡◌, inl, inr, ℕ, zero, ◌+◌, ◌<◌, ◌≤◌, Bool, true, false, ◌&&◌, List, [], ◌∷◌, length, refl, sym, ◌∙◌, ap, subst, arith}
+use Rattle.std.proofs.Common.{◌≡◌, inl, inr, ℕ, ◌<◌, Bool, true, false, ◌&&◌, List, [], ◌∷◌, length, refl, sym, ap, subst, arith}
 use Rattle.std.specs.Prelude.{if◌then◌else◌, nat_lt}
 use Rattle.std.specs.List.{AllByRecursion, list_all}
 use Rattle.std.proofs.lemmas.Bool.Decides.{nat_tests}
-use Rattle.std.proofs.lemmas.List.Sums.{sum_by-cons}
 use Rattle.pc_word.specs.declared.item.Item.{Item}
 use Rattle.pc_word.specs.declared.item.Item.TheVariants.{Bin, Copy, Load, Store, Print, Read, More}
 use Rattle.pc_word.specs.declared.item.Limits.{Limits}
@@ -16,7 +15,6 @@ use Rattle.pc_machine.specs.MachineCode.{CodeRow, RowCode}
 use Rattle.pc_machine.specs.Registers.{few_registers, most_registers, IsRegisterCount}
 use Rattle.pc_machine.specs.WellFormed.{IsOperand, IsItem, IsRow, WellFormed}
 use Rattle.pc_tighten.specs.Compact.{Compact}
-use Rattle.pc_tighten.specs.Sizes.{Room, row_room, rows_room}
 use Rattle.pc_compile.specs.Registers.{operand_below, item_below, row_below, registers_for, fitted}
 
 -- ---- registers below a number
@@ -111,25 +109,63 @@ module _ (limits : Limits) (count most arrays rows : ℕ) where
       let parts = and_true (row_below count row) (list_all (row_below count) list) e in
       (row_fits row parts.0 all.0, rows_fit list parts.1 all.1)
 
--- a well formed code of the most registers is one of as many as its rows need
-pub fitted_form : (code : RowCode) → WellFormed code → code.registers ≡ most_registers → WellFormed (fitted code)
-fitted_form code form most = by (list_all (row_below few_registers) code.rows) refl
-  where
-    rows : AllByRecursion (IsRow code.limits most_registers (length code.arrays) (length code.rows)) code.rows
-    rows = subst (λ (n : ℕ). AllByRecursion (IsRow code.limits n (length code.arrays) (length code.rows)) code.rows) most form.rows
+-- ---- rows of so many registers name no others
 
+row_is_below : (count arrays : ℕ) (row : CodeRow) → AllByRecursion (IsItem count arrays) (items_of row) → AllByRecursion (IsOperand count) (tests_of row)
+    → row_below count row ≡ true
+row_is_below count arrays (Then item rest) items tests =
+    and_made (item_below count item) (row_below count rest) (item_is_below count arrays item items.0) (row_is_below count arrays rest items.1 tests)
+row_is_below count arrays (Either on on_yes on_no) items tests =
+    and_made (operand_below count on) (row_below count on_yes && row_below count on_no) (operand_is_below count on tests.0)
+    (and_made (row_below count on_yes) (row_below count on_no)
+    (row_is_below count arrays on_yes (all_front (IsItem count arrays) (items_of on_yes) (items_of on_no) items)
+    (all_front (IsOperand count) (tests_of on_yes) (tests_of on_no) tests.1))
+    (row_is_below count arrays on_no (all_back (IsItem count arrays) (items_of on_yes) (items_of on_no) items)
+    (all_back (IsOperand count) (tests_of on_yes) (tests_of on_no) tests.1)))
+row_is_below count arrays (At_leaf leaf) items tests = refl
+
+rows_are_below : (limits : Limits) (count arrays many : ℕ) (rows : List CodeRow) → AllByRecursion (IsRow limits count arrays many) rows
+    → list_all (row_below count) rows ≡ true
+rows_are_below limits count arrays many [] all = refl
+rows_are_below limits count arrays many (row ∷ rows) all =
+    and_made (row_below count row) (list_all (row_below count) rows) (row_is_below count arrays row all.0.items all.0.operands)
+    (rows_are_below limits count arrays many rows all.1)
+
+-- rows of the fewer registers need these alone
+pub few_for_fewer : (limits : Limits) (arrays many : ℕ) (rows : List CodeRow) → AllByRecursion (IsRow limits few_registers arrays many) rows
+    → registers_for rows ≡ few_registers
+few_for_fewer limits arrays many rows fit =
+    ap (λ (b : Bool). if b then few_registers else most_registers) (rows_are_below limits few_registers arrays many rows fit)
+
+-- a well formed code of the fewer registers needs these alone
+pub few_stay_few : (code : RowCode) → WellFormed code → code.registers ≡ few_registers → registers_for code.rows ≡ few_registers
+few_stay_few code form few =
+    few_for_fewer code.limits (length code.arrays) (length code.rows) code.rows
+    (subst (λ (n : ℕ). AllByRecursion (IsRow code.limits n (length code.arrays) (length code.rows)) code.rows) few form.rows)
+
+-- ---- a code with as many registers as its rows need
+
+-- it is well formed
+pub fitted_form : (code : RowCode) → WellFormed code → WellFormed (fitted code)
+fitted_form code form = by (list_all (row_below few_registers) code.rows) refl form.registers
+  where
     with_registers : (count : ℕ) → IsRegisterCount count → AllByRecursion (IsRow code.limits count (length code.arrays) (length code.rows)) code.rows
         → WellFormed (record code { registers = count })
     with_registers count is all =
         record { limits = form.limits; registers = is; arrays = form.arrays; initial = form.initial; entry = form.entry; rows = all }
 
-    by : (b : Bool) → list_all (row_below few_registers) code.rows ≡ b → WellFormed (fitted code)
-    by true e =
+    by : (b : Bool) → list_all (row_below few_registers) code.rows ≡ b → IsRegisterCount code.registers → WellFormed (fitted code)
+    by true e is =
         subst (λ (count : ℕ). WellFormed (record code { registers = count })) (sym (ap (λ (b : Bool). if b then few_registers else most_registers) e))
-        (with_registers few_registers (inl refl) (rows_fit code.limits few_registers most_registers (length code.arrays) (length code.rows) code.rows e rows))
-    by false e =
+        (with_registers few_registers (inl refl) (rows_fit code.limits few_registers code.registers (length code.arrays) (length code.rows) code.rows e form.rows))
+    by false e (inl few) =
+        subst (λ (count : ℕ). WellFormed (record code { registers = count })) (sym (few_stay_few code form few))
+        (with_registers few_registers (inl refl)
+        (subst (λ (n : ℕ). AllByRecursion (IsRow code.limits n (length code.arrays) (length code.rows)) code.rows) few form.rows))
+    by false e (inr most) =
         subst (λ (count : ℕ). WellFormed (record code { registers = count })) (sym (ap (λ (b : Bool). if b then few_registers else most_registers) e))
-        (with_registers most_registers (inr refl) rows)
+        (with_registers most_registers (inr refl)
+        (subst (λ (n : ℕ). AllByRecursion (IsRow code.limits n (length code.arrays) (length code.rows)) code.rows) most form.rows))
 
 -- it is as compact
 pub fitted_compact : (code : RowCode) → Compact code → Compact (fitted code)
@@ -140,73 +176,3 @@ fitted_compact code compact m t above under reachable pair = compact m t above u
   not_entry = pair.not_entry;
   not_itself = pair.not_itself;
 })
-
--- ---- room of what names others
-
--- room for what a number of registers does not suffice for
-abbrev room_unless : Bool → ℕ
-room_unless true = 0
-room_unless false = 1
-
--- what names a register from a number on takes room
-abbrev pub above_room : ℕ → Room
-above_room count = record {
-  of_item = λ item. room_unless (item_below count item);
-  of_test = λ on. room_unless (operand_below count on);
-  of_leaf = λ leaf. 0;
-  alike = λ i j. refl;
-}
-
-none_taken : (b : Bool) → b ≡ true → room_unless b ≡ 0
-none_taken b e = ap room_unless e
-
-no_room : (b : Bool) → room_unless b ≡ 0 → b ≡ true
-no_room true e = refl
-no_room false e = absurd (omega (arith, e))
-
-row_roomless : (count arrays : ℕ) (row : CodeRow) → AllByRecursion (IsItem count arrays) (items_of row) → AllByRecursion (IsOperand count) (tests_of row)
-    → row_room (above_room count) row ≡ 0
-row_roomless count arrays (Then item rest) items tests =
-    let here = none_taken (item_below count item) (item_is_below count arrays item items.0) in
-    let below = row_roomless count arrays rest items.1 tests in
-    omega (arith, here, below)
-row_roomless count arrays (Either on on_yes on_no) items tests =
-    let here = none_taken (operand_below count on) (operand_is_below count on tests.0) in
-    let yes = row_roomless count arrays on_yes (all_front (IsItem count arrays) (items_of on_yes) (items_of on_no) items)
-    (all_front (IsOperand count) (tests_of on_yes) (tests_of on_no) tests.1) in
-    let no = row_roomless count arrays on_no (all_back (IsItem count arrays) (items_of on_yes) (items_of on_no) items)
-    (all_back (IsOperand count) (tests_of on_yes) (tests_of on_no) tests.1) in
-    omega (arith, here, yes, no)
-row_roomless count arrays (At_leaf leaf) items tests = refl
-
-row_names_none : (count : ℕ) (row : CodeRow) → row_room (above_room count) row ≡ 0 → row_below count row ≡ true
-row_names_none count (Then item rest) e =
-    and_made (item_below count item) (row_below count rest) (no_room (item_below count item) (omega (arith, e))) (row_names_none count rest (omega (arith, e)))
-row_names_none count (Either on on_yes on_no) e =
-    and_made (operand_below count on) (row_below count on_yes && row_below count on_no) (no_room (operand_below count on) (omega (arith, e)))
-    (and_made (row_below count on_yes) (row_below count on_no) (row_names_none count on_yes (omega (arith, e))) (row_names_none count on_no (omega (arith, e))))
-row_names_none count (At_leaf leaf) e = refl
-
-rows_roomless : (limits : Limits) (count arrays many : ℕ) (rows : List CodeRow) → AllByRecursion (IsRow limits count arrays many) rows
-    → rows_room (above_room count) rows ≡ 0
-rows_roomless limits count arrays many [] all = refl
-rows_roomless limits count arrays many (row ∷ rows) all =
-    let here = row_roomless count arrays row all.0.items all.0.operands in
-    let others = rows_roomless limits count arrays many rows all.1 in
-    let sum = sum_by-cons (row_room (above_room count)) row rows in
-    omega (arith, here, others, sum)
-
-rows_name_none : (count : ℕ) (rows : List CodeRow) → rows_room (above_room count) rows ≡ 0 → list_all (row_below count) rows ≡ true
-rows_name_none count [] e = refl
-rows_name_none count (row ∷ rows) e =
-    let sum = sum_by-cons (row_room (above_room count)) row rows in
-    and_made (row_below count row) (list_all (row_below count) rows) (row_names_none count row (omega (arith, e, sum)))
-    (rows_name_none count rows (omega (arith, e, sum)))
-
--- rows that take no more of that room than rows of the fewer registers need these alone
-pub few_for_fewer : (limits : Limits) (arrays many : ℕ) (rows before : List CodeRow)
-    → rows_room (above_room few_registers) rows ≤ rows_room (above_room few_registers) before
-    → AllByRecursion (IsRow limits few_registers arrays many) before → registers_for rows ≡ few_registers
-few_for_fewer limits arrays many rows before room fit =
-    let none = rows_roomless limits few_registers arrays many before fit in
-    ap (λ (b : Bool). if b then few_registers else most_registers) (rows_name_none few_registers rows (omega (arith, room, none)))

@@ -18,7 +18,7 @@ use Rattle.pc_emit.specs.PackedForm.{IsRegionForm}
 use Rattle.pc_emit.specs.Laws.{code_with}
 use Rattle.pc_emit.proofs.Leading.{leaf_run, leaf_grows}
 use Rattle.pc_compile.specs.ScheduleRun.{SchedulePlace, At_tree, At_state, begins_in, schedule_step, schedule_run, step_cost, cost_behind, cost_from, start_cost, schedule_cost}
-use Rattle.pc_compile.specs.Laws.{EmittedRowsKeepPace, TightenedCodesKeepPace}
+use Rattle.pc_compile.specs.Laws.{EmittedRowsKeepPace, RecoloredCodesKeepPace, TightenedCodesKeepPace}
 use Rattle.pc_compile.proofs.SchedulePlaces.{code, Meets, Pays, pays_on, pays_end, form_meets, pays, BeginsPlain, begins_there, first_begins}
 
 module _ (e : Emission) (keeps : TableKeeps e.table) (limits : Limits) (rows : List CodeRow) (emitted : IsEmitted e rows)
@@ -93,6 +93,17 @@ emitted_rows_keep_pace e keeps limits registers initial rows same emitted at_fir
     (subst (λ (it : Option RegionForm). IsInTimeAfter e keeps limits rows emitted forms (start_cost it) n (begins_in e.table 0 it first) first)
     (sym emitted.leads.has)
     (first_in_time e keeps limits rows emitted forms at_first emitted.leads.form emitted.leads.has emitted.leads.is first n))
+
+-- ---- registers chosen anew
+
+-- runs that show the same after each number of cycles show as much
+pub recolored_codes_keep_pace : RecoloredCodesKeepPace
+recolored_codes_keep_pace table forms most before after recolored input pace n =
+    let seen = schedule_run table forms before.initial input n in
+    subst (λ (initial : List (List ℤ)). Answers (schedule_run table forms initial input n)
+    (machine_run after input (schedule_cost table forms after.limits.ops initial input n)) (schedule_run table forms initial input n).end) (sym recolored.initial)
+    (subst (λ (limits : Limits). Answers seen (machine_run after input (schedule_cost table forms limits.ops before.initial input n)) seen.end) (sym recolored.limits)
+    (subst (λ (shown : Seen). Answers seen shown seen.end) (recolored.runs input (schedule_cost table forms before.limits.ops before.initial input n)) (pace n)))
 
 -- ---- tightening
 

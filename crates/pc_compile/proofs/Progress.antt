@@ -115,7 +115,7 @@ no_forms_in count = λ i region. none_in count region i
 -- ---- region 0 is found
 
 pub progress_begins : (table : Table) (initial : List (List ℤ)) (limits : Limits) (extent : Extent) (it : Progress) → it.found.order ≡ 0 ∷ [] → length it.found.marks ≡ length table.regions
-    → it.chosen.choices ≡ [] → it.chosen.forms ≡ replicate (length table.regions) None → it.bytes ≡ object_bytes table initial (λ region. None)
+    → it.chosen.choices ≡ [] → it.chosen.forms ≡ replicate (length table.regions) None → it.chosen.bytes ≡ object_bytes table initial (λ region. None)
     → object_bytes table initial (λ region. None) ≤ most_object → IsChoosing table initial limits extent it
 progress_begins table initial limits extent it order marks choices forms bytes small =
     let none : region_forms it.chosen.forms ≡ (λ region. None) = ap region_forms forms ∙ no_forms_in (length table.regions) in
@@ -137,17 +137,17 @@ module _ (table : Table) (initial : List (List ℤ)) (limits : Limits) (extent :
   free : region_forms old.chosen.forms region ≡ None
   free = next_is_free table initial limits extent old.found.order old.chosen.choices (region_forms old.chosen.forms) is.choosing region next
 
-  next_is_counted : plain_bytes (region_tree table region) ≤ old.bytes
+  next_is_counted : plain_bytes (region_tree table region) ≤ old.chosen.bytes
   next_is_counted =
       let within = plain_within table initial (region_forms old.chosen.forms) region there free in let counted = is.counted in omega (arith, within, counted)
 
-  counts : bytes_of table region (old.bytes - plain_bytes (region_tree table region)) ≡ bytes_with table initial (region_forms old.chosen.forms) region
+  counts : bytes_of table region (old.chosen.bytes - plain_bytes (region_tree table region)) ≡ bytes_with table initial (region_forms old.chosen.forms) region
   counts =
       ap (λ (n : ℕ). bytes_of table region (n - plain_bytes (region_tree table region))) is.counted
       ∙ counts_alike table initial (region_forms old.chosen.forms) region there free
 
-  module _ (new : Progress) (given : Given) (gives : IsGiven table limits extent region (old.bytes - plain_bytes (region_tree table region)) given)
-      (finds : Finds (form_leads (region_tree table region) (form_of given.form)) old.found new.found) (bytes : new.bytes ≡ given.bytes)
+  module _ (new : Progress) (given : Given) (gives : IsGiven table limits extent region (old.chosen.bytes - plain_bytes (region_tree table region)) given)
+      (finds : Finds (form_leads (region_tree table region) (form_of given.form)) old.found new.found) (bytes : new.chosen.bytes ≡ given.bytes)
       (choices : new.chosen.choices ≡ old.chosen.choices ++ choice_of region given.kind given.causes ∷ [])
       (forms : new.chosen.forms ≡ slice_set old.chosen.forms region (Some given.form)) where
     forms_now : region_forms new.chosen.forms ≡ with_region_form (region_forms old.chosen.forms) region (form_of given.form)
@@ -178,8 +178,8 @@ module _ (table : Table) (initial : List (List ℤ)) (limits : Limits) (extent :
 -- ---- regions that are found
 
 -- a region that was found is there
-pub next_there : (table : RegionTable) (initial : List (List ℤ)) (limits : Limits) (extent : Extent) (it : Progress) → IsChoosing (table_of table) initial limits extent it → IsMarked it.found → (at region : ℕ)
-    → slice_get it.found.order at ≡ Some region → region < length table.regions
+pub next_there : (table : RegionTable) (initial : List (List ℤ)) (limits : Limits) (extent : Extent) (it : Progress)
+    → IsChoosing (table_of table) initial limits extent it → IsMarked it.found → (at region : ℕ) → slice_get it.found.order at ≡ Some region → region < length table.regions
 next_there table initial limits extent it is marked at region here =
     let lt = found_there it.found at region marked here in
     let marks = is.marks in
@@ -187,7 +187,8 @@ next_there table initial limits extent it is marked at region here =
     omega (arith, lt, marks, regions)
 
 -- while one is left, fewer were taken than there are
-pub taken_fewer : (table : RegionTable) (initial : List (List ℤ)) (limits : Limits) (extent : Extent) (it : Progress) → IsChoosing (table_of table) initial limits extent it → IsMarked it.found → (region : ℕ)
+pub taken_fewer : (table : RegionTable) (initial : List (List ℤ)) (limits : Limits) (extent : Extent) (it : Progress)
+    → IsChoosing (table_of table) initial limits extent it → IsMarked it.found → (region : ℕ)
     → slice_get it.found.order (length it.chosen.choices) ≡ Some region → length it.chosen.choices < length table.regions
 taken_fewer table initial limits extent it is marked region next =
     let lt = slice_get_within it.found.order (length it.chosen.choices) region next in
@@ -209,9 +210,9 @@ all_chosen table initial limits extent it is none = record {
 }
 
 -- the region that is taken next is counted as a plain one
-pub next_counted : (table : RegionTable) (initial : List (List ℤ)) (limits : Limits) (extent : Extent) (it : Progress) → IsChoosing (table_of table) initial limits extent it → (region : ℕ)
-    → slice_get it.found.order (length it.chosen.choices) ≡ Some region → region < length table.regions
-    → plain_bytes (region_tree (table_of table) region) ≤ it.bytes
+pub next_counted : (table : RegionTable) (initial : List (List ℤ)) (limits : Limits) (extent : Extent) (it : Progress)
+    → IsChoosing (table_of table) initial limits extent it → (region : ℕ) → slice_get it.found.order (length it.chosen.choices) ≡ Some region → region < length table.regions
+    → plain_bytes (region_tree (table_of table) region) ≤ it.chosen.bytes
 next_counted table initial limits extent it is region next there =
     let regions = map_length table_region table.regions in
     next_is_counted (table_of table) initial limits extent it is region next (omega (arith, regions, there))

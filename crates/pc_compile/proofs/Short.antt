@@ -1,6 +1,6 @@
 -- The object of a table is short: with all regions plain by the graph's nodes, and in the forms that were chosen by what was
 -- counted.
-use Rattle.std.proofs.Common.{◌≡◌, ◌∙◌, ℕ, suc, ◌+◌, ◌-◌, ◌*◌, ◌≤◌, List, [], ◌∷◌, ◌++◌, length, length-append, Option, Some, None, refl, ap, arith}
+use Rattle.std.proofs.Common.{◌≡◌, ℕ, suc, ◌+◌, ◌-◌, ◌*◌, ◌≤◌, List, [], ◌∷◌, ◌++◌, length, length-append, Option, Some, None, refl, ap, arith}
 use Rattle.std.specs.Prelude.{ℤ, Bool, true, false, if◌then◌else◌, slice_get, sum}
 use Rattle.std.specs.List.{AllByRecursion, flat_map}
 use Rattle.std.proofs.lemmas.List.Sums.{sum_by-cons}
@@ -25,7 +25,7 @@ use Rattle.pc_word.specs.Data.{AreData}
 use Rattle.pc_machine.specs.MachineCode.{CodeRow, RowCode}
 use Rattle.pc_word.specs.Row.{Then, Either, At_leaf}
 use Rattle.pc_object.specs.declared.object.Note.{Note}
-use Rattle.pc_object.specs.ObjectText.{CodeWithNotes, u16_text, u32_text, operand_text, item_text, leaf_text, row_text, note_text, notes_text}
+use Rattle.pc_object.specs.ObjectText.{CodeWithNotes, operand_text, item_text, leaf_text, row_text, notes_text}
 use Rattle.pc_object.specs.declared.version.Version.{Version}
 use Rattle.pc_object.specs.declared.version.Version.TheVariants.{Ptv1, Ptv2}
 use Rattle.pc_object.specs.ObjectText.{version_of, header_text, object_text, IsChoice}

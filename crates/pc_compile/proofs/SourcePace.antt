@@ -39,7 +39,7 @@ regions_keep_pace program first flow table lowered kept cut input words n =
 -- the data of an object's arrays are those of the graph
 initial_is : (program : ResolvedProgram) (Passed : FlowGraph → FlowGraph → Type 0) (limits : Limits) (extent : Extent) (flow : FlowGraph) (table : Table)
     (choices : List Choice) (object : CodeWithNotes) → IsCompiled program Passed limits extent flow table choices object → object.code.initial ≡ flow.initial
-initial_is program Passed limits extent flow table choices object it = ap (λ (code : RowCode). code.initial) it.code ∙ it.tightened.initial
+initial_is program Passed limits extent flow table choices object it = ap (λ (code : RowCode). code.initial) it.code ∙ it.tightened.initial ∙ it.recolored.initial
 
 pub objects_keep_pace : (Passed : FlowGraph → FlowGraph → Type 0) → ObjectsKeepPaceWithTheSource Passed
 objects_keep_pace Passed program limits extent flow table choices object it input words n =

@@ -26,6 +26,7 @@ use Rattle.pc_emit.specs.Emitting.{region_forms, AreEnough, AreForms}
 use Rattle.pc_emit.specs.PackedForm.{IsRegionForm}
 use Rattle.pc_emit.specs.Bytes.{object_bytes}
 use Rattle.pc_emit.specs.Laws.{code_with}
+use Rattle.pc_recolor.specs.Recolored.{IsRecolored}
 use Rattle.pc_tighten.specs.Tightened.{IsTightened}
 use Rattle.pc_compile.specs.declared.choice.Choice.{Choice}
 use Rattle.pc_compile.specs.Choosing.{AreChosen}
@@ -56,6 +57,11 @@ abbrev pub EmittedRowsKeepPace : Type 0
 EmittedRowsKeepPace = (e : Emission) → TableKeeps e.table → (limits : Limits) (registers : ℕ) (initial : List (List ℤ)) (rows : List CodeRow) → limits.ops ≡ e.ops → IsEmitted e rows
     → BeginsAtFirstRow e → ((region : ℕ) (form : RegionForm) → e.forms region ≡ Some form → IsRegionForm e.table region form)
     → (input : List ℤ) → KeepsPaceOn e.table e.forms (code_with limits registers initial e rows) input
+
+-- where a code keeps pace with a schedule on an input, so does the code after its registers were chosen anew
+abbrev pub RecoloredCodesKeepPace : Type 0
+RecoloredCodesKeepPace = (table : Table) (forms : ℕ → Option RegionForm) (most : ℕ) (before after : RowCode) → IsRecolored most before after
+    → (input : List ℤ) → KeepsPaceOn table forms before input → KeepsPaceOn table forms after input
 
 -- where a code keeps pace with a schedule on an input, and never faults there, so does the code after its tightening
 abbrev pub TightenedCodesKeepPace : Type 0

@@ -1,5 +1,5 @@
 -- How many registers rows need, and codes that have as many.
-use Rattle.std.specs.Prelude.{ℕ, ℤ, Bool, true, ◌&&◌, if◌then◌else◌, nat_lt, List, Option, Some, None}
+use Rattle.std.specs.Prelude.{ℕ, ℤ, Bool, true, ◌&&◌, if◌then◌else◌, nat_lt, List}
 use Rattle.std.specs.List.{list_all}
 use Rattle.pc_word.specs.declared.item.Item.{Item}
 use Rattle.pc_word.specs.declared.item.Item.TheVariants.{Bin, Copy, Load, Store, Print, Read, More}
@@ -40,7 +40,7 @@ registers_for rows = if list_all (row_below few_registers) rows then few_registe
 abbrev pub fitted : RowCode → RowCode
 fitted code = record code { registers = registers_for code.rows }
 
--- the code of rows before they are tightened, over a table's arrays, which begin with these data
+-- the code of rows that were emitted, over a table's arrays, which begin with these data
 abbrev pub loose_code : Limits → Table → (initial : List (List ℤ)) → List CodeRow → RowCode
 loose_code limits table initial rows =
     record { limits = limits; registers = most_registers; arrays = table.arrays; initial = initial; rows = rows }

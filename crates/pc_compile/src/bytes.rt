@@ -1,5 +1,5 @@
 //! The bytes that are counted for regions in their forms.
-ghost use Rattle.std.specs.Prelude.{◌≡◌, ◌<◌, ◌≤◌, ◌*◌, ◌^◌, None, length};
+ghost use Rattle.std.specs.Prelude.{◌≡◌, ◌<◌, ◌≤◌, ◌*◌, ◌^◌, ◌+◌, None, length};
 ghost use Rattle.pc_word.specs.MachineLimits.{most_object};
 ghost use Rattle.pc_table.specs.Table.{table_tree, table_regions};
 ghost use Rattle.pc_table.specs.StoredTable.{table_of};
@@ -7,7 +7,7 @@ ghost use Rattle.pc_automaton.specs.Automaton.{states_in};
 ghost use Rattle.pc_emit.specs.Bytes.{leaf_bytes, row_bytes, states_bytes, tree_bytes, plain_bytes, object_bytes};
 ghost use Rattle.pc_object.specs.declared.version.Version.TheVariants.{Ptv2};
 ghost use Rattle.pc_object.specs.Sizes.{initial_bytes};
-ghost use Rattle.pc_compile.specs.models.Counting.{all_plain_bytes};
+ghost use Rattle.pc_compile.specs.models.Counting.{all_plain_bytes, bytes_beside_rows};
 ghost use Rattle.pc_word.specs.StoredRow.{row_in};
 
 use pc_automaton::{Automaton, AutomatonLeaf};
@@ -32,13 +32,30 @@ pub(crate) fn object_bytes(table: &RegionTable, initial: &DataList) -> u32
     requires { object_bytes (table_of table.now) initial.now (λ region. None) ≤ most_object }
     ensures { result ≡ object_bytes (table_of table.now) initial.now (λ region. None) }
 {
-    let regions = all_plain_bytes(table.regions.as_slice());
+    bytes_beside_rows(table, initial) + all_plain_bytes(table.regions.as_slice())
+}
+
+/// The bytes that are counted for the rows of a table's object, of all that are counted for it, where its
+/// arrays begin with these data.
+pub(crate) fn rows_bytes(table: &RegionTable, initial: &DataList, all: u32) -> u32
+    requires few { all ≤ most_object }
+    requires within { bytes_beside_rows (table_of table.now) initial.now ≤ all }
+    ensures { result + bytes_beside_rows (table_of table.now) initial.now ≡ all }
+{
+    all - bytes_beside_rows(table, initial)
+}
+
+/// The bytes of a table's object beside its rows, where its arrays begin with these data.
+fn bytes_beside_rows(table: &RegionTable, initial: &DataList) -> u32
+    requires { bytes_beside_rows (table_of table.now) initial.now ≤ most_object }
+    ensures { result ≡ bytes_beside_rows (table_of table.now) initial.now }
+{
     let arrays = table.arrays.len() as u32;
     let data = data_bytes(initial.as_slice());
     let loops = table.loops.len() as u32;
     (HEADER_BYTES + REGISTERS_BYTES)
         + (LENGTH_BYTES * arrays + data)
-        + (regions + (COUNT_BYTES + NOTE_BYTES * loops))
+        + (COUNT_BYTES + NOTE_BYTES * loops)
 }
 
 /// The bytes of the data of arrays.

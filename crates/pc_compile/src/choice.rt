@@ -34,9 +34,11 @@ pub struct Choice {
 }
 
 /// What was chosen for the regions that are reachable from region 0, in the order in which they were
-/// taken, and the forms themselves, by region.
+/// taken, the forms themselves, by region, and the bytes that are counted for the object in these forms,
+/// with each region plain that has none.
 #[derive(Drop)]
 pub struct Chosen {
     pub choices: ChoiceList,
     pub forms: FormList,
+    pub bytes: u32,
 }

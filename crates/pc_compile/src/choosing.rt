@@ -21,13 +21,11 @@ use pc_table::RegionTable;
 use pc_word::{DataList, Extent, Limits};
 use std::alloc::{AllocError, Global};
 
-/// The regions that were found, what was chosen for the first of them, and the bytes of the object
-/// then, with each region plain that has no form yet.
+/// The regions that were found, and what was chosen for the first of them.
 #[derive(Drop)]
 pub(crate) struct Progress {
     pub(crate) found: Found,
     pub(crate) chosen: Chosen,
-    pub(crate) bytes: u32,
 }
 
 /// Chooses a form for each region that is reachable from region 0, in the order in which they are found:
@@ -48,6 +46,8 @@ pub fn choose(
     requires small { object_bytes (table_of table.now) initial.now (λ region. None) ≤ most_object }
     ensures chosen { IfOk result (λ it. AreChosen (table_of table.now) initial.now limits extent it.choices (region_forms it.forms)) }
     ensures count { IfOk result (λ it. length it.forms ≡ length table.now.regions) }
+    ensures counted { IfOk result (λ it. it.bytes ≡ object_bytes (table_of table.now) initial.now (region_forms it.forms)) }
+    ensures short { IfOk result (λ it. it.bytes ≤ most_object) }
 {
     let mut progress = begun(alloc, table, initial)?;
     while let Some(region) = progress.found.region(progress.chosen.choices.len()) {
@@ -67,12 +67,9 @@ fn begun(alloc: Global, table: &RegionTable, initial: &DataList) -> Result<Progr
     let chosen = Chosen {
         choices: ChoiceList::new(alloc),
         forms: no_forms(alloc, count)?,
-    };
-    Ok(Progress {
-        found,
-        chosen,
         bytes: object_bytes(table, initial),
-    })
+    };
+    Ok(Progress { found, chosen })
 }
 
 /// So many regions without a form.
@@ -106,10 +103,9 @@ fn take(
 {
     let tree = table.tree(region);
     let plain = plain_bytes(tree);
-    let others = progress.bytes - plain;
+    let others = progress.chosen.bytes - plain;
     let given = form_for(alloc, table, region, limits, extent, others, plain)?;
     find_behind(tree, &given.form, &mut progress.found)?;
-    progress.bytes = given.bytes;
     put(region, given, &mut progress.chosen)?;
     Ok(())
 }
@@ -119,12 +115,13 @@ fn put(region: u32, given: Given, chosen: &mut Chosen) -> Result<(), AllocError>
     requires { region < length chosen.old.forms }
     ensures choices { OnOk result (chosen.new.choices ≡ chosen.old.choices ++ choice_of region given.kind given.causes ∷ []) }
     ensures forms { OnOk result (chosen.new.forms ≡ slice_set chosen.old.forms region (Some given.form)) }
+    ensures bytes { OnOk result (chosen.new.bytes ≡ given.bytes) }
 {
     let Given {
         form,
         kind,
         causes,
-        ..
+        bytes,
     } = given;
     chosen.choices.push(Choice {
         region,
@@ -132,5 +129,6 @@ fn put(region: u32, given: Given, chosen: &mut Chosen) -> Result<(), AllocError>
         causes,
     })?;
     chosen.forms.set(region as usize, Some(form));
+    chosen.bytes = bytes;
     Ok(())
 }

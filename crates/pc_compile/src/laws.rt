@@ -3,7 +3,8 @@
 ghost use Rattle.pc_compile.specs.Laws.{ChosenFormsMayBeEmitted, ATableHasOneAnswer};
 ghost use Rattle.std.specs.Prelude.{List};
 ghost use Rattle.pc_pass.specs.Pass.{Chain};
-ghost use Rattle.pc_compile.specs.Laws.{RegionsKeepPaceWithTheSource, SchedulesKeepPaceWithTheRegions, EmittedRowsKeepPace, TightenedCodesKeepPace};
+ghost use Rattle.pc_compile.specs.Laws.{RegionsKeepPaceWithTheSource, SchedulesKeepPaceWithTheRegions, EmittedRowsKeepPace};
+ghost use Rattle.pc_compile.specs.Laws.{RecoloredCodesKeepPace, TightenedCodesKeepPace};
 ghost use Rattle.pc_compile.specs.Laws.{StepsCostFewCycles, MostAreEnough, ObjectsKeepPaceWithTheSource, ObjectsKeepPaceInCycles};
 
 use pc_pass::Pass;
@@ -23,13 +24,15 @@ pub fn law_of_choices()
 /// source's evaluation passes and one unit more. The schedule of their forms shows, in as many steps,
 /// at least what they show, and n steps cost fewer than twice as many cycles n times, and one more, as registers are
 /// enough for the forms, which the most always are. Emitted rows show, in as many cycles as
-/// the schedule may cost, at least what the schedule shows; and so does a code after its tightening.
+/// the schedule may cost, at least what the schedule shows; so does a code after its registers were chosen
+/// anew, and after its tightening.
 pub fn laws_of_pace()
     ensures regions { RegionsKeepPaceWithTheSource }
     ensures schedules { SchedulesKeepPaceWithTheRegions }
     ensures costs { StepsCostFewCycles }
     ensures enough { MostAreEnough }
     ensures emitted { EmittedRowsKeepPace }
+    ensures recolored { RecoloredCodesKeepPace }
     ensures tightened { TightenedCodesKeepPace }
 {}
 

@@ -9,11 +9,11 @@ use Rattle.pc_emit.specs.Bytes.{object_bytes}
 use Rattle.pc_compile.specs.declared.choosing.Progress.{Progress}
 use Rattle.pc_compile.specs.Choosing.{Choosing}
 
--- the regions that were found and what was chosen for those that were taken, with the bytes of the object then
+-- the regions that were found and what was chosen for those that were taken
 pub record IsChoosing (table : Table) (initial : List (List ℤ)) (limits : Limits) (extent : Extent) (it : Progress) : Type 0 where
   pub choosing : Choosing table initial limits extent it.found.order it.chosen.choices (region_forms it.chosen.forms)
-  pub counted : it.bytes ≡ object_bytes table initial (region_forms it.chosen.forms)
-  pub short : it.bytes ≤ most_object
+  pub counted : it.chosen.bytes ≡ object_bytes table initial (region_forms it.chosen.forms)
+  pub short : it.chosen.bytes ≤ most_object
   pub forms : length it.chosen.forms ≡ length table.regions
   pub marks : length it.found.marks ≡ length table.regions
 

@@ -1,4 +1,4 @@
-use Rattle.std.proofs.Common.{refl, ◌∙◌, ap, arith}
+use Rattle.std.proofs.Common.{◌∙◌, ap, arith}
 use Rattle.pc_table.specs.Table.{table_region}
 use Rattle.pc_table.specs.StoredTable.{table_of}
 use Rattle.pc_emit.specs.Bytes.{plain_bytes}
@@ -9,19 +9,22 @@ use Rattle.pc_word.proofs.Places.{map_length}
 
 pub plain_bytes-plain-requires : goal.plain_bytes-plain-requires
 plain_bytes-plain-requires c =
-    let within = next_counted c.args.table.now c.requires.choosing.initial c.args.limits c.args.extent c.args.progress.now c.requires.choosing.choosing c.args.region c.requires.next c.requires.there in
+    let within = next_counted c.args.table.now c.requires.choosing.initial c.args.limits c.args.extent c.args.progress.now c.requires.choosing.choosing
+    c.args.region c.requires.next c.requires.there in
     let short = c.requires.choosing.choosing.short in
     rw c.tree-tree.ensures.tree (omega (arith, within, short))
 
 pub overflow_sub-others : goal.overflow_sub-others
 overflow_sub-others c =
-    let within = next_counted c.args.table.now c.requires.choosing.initial c.args.limits c.args.extent c.args.progress.now c.requires.choosing.choosing c.args.region c.requires.next c.requires.there in
+    let within = next_counted c.args.table.now c.requires.choosing.initial c.args.limits c.args.extent c.args.progress.now c.requires.choosing.choosing
+    c.args.region c.requires.next c.requires.there in
     let plain = c.plain_bytes-plain.ensures ∙ ap plain_bytes c.tree-tree.ensures.tree in
     omega (arith, within, plain)
 
 pub form_for-requires-clause-short : goal.form_for-requires-clause-short
 form_for-requires-clause-short c =
-    let within = next_counted c.args.table.now c.requires.choosing.initial c.args.limits c.args.extent c.args.progress.now c.requires.choosing.choosing c.args.region c.requires.next c.requires.there in
+    let within = next_counted c.args.table.now c.requires.choosing.initial c.args.limits c.args.extent c.args.progress.now c.requires.choosing.choosing
+    c.args.region c.requires.next c.requires.there in
     let plain = c.plain_bytes-plain.ensures ∙ ap plain_bytes c.tree-tree.ensures.tree in
     let short = c.requires.choosing.choosing.short in
     omega (arith, within, plain, short)
@@ -46,5 +49,5 @@ returns-clause-choosing c initial choosing =
     let there = c.requires.there in
     let plain = c.plain_bytes-plain.ensures ∙ ap plain_bytes c.tree-tree.ensures.tree in
     takes_next (table_of c.args.table.now) initial c.args.limits c.args.extent c.args.progress.now choosing c.args.region c.requires.next
-    (omega (arith, regions, there)) _ c.in_ok-given.given (rw plain at c.in_ok-given.ensures) (rw c.tree-tree.ensures.tree at c.in_ok-find_behind.ensures) refl
+    (omega (arith, regions, there)) _ c.in_ok-given.given (rw plain at c.in_ok-given.ensures) (rw c.tree-tree.ensures.tree at c.in_ok-find_behind.ensures) c.in_ok-put.ensures.bytes
     c.in_ok-put.ensures.choices c.in_ok-put.ensures.forms

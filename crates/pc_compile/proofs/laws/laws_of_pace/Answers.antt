@@ -1,5 +1,5 @@
 use Rattle.pc_compile.proofs.CostBounds.{steps_cost_few, most_are_enough}
-use Rattle.pc_compile.proofs.Paces.{emitted_rows_keep_pace, tightened_codes_keep_pace}
+use Rattle.pc_compile.proofs.Paces.{emitted_rows_keep_pace, recolored_codes_keep_pace, tightened_codes_keep_pace}
 use Rattle.pc_compile.proofs.RegionPaces.{schedules_keep_pace}
 use Rattle.pc_compile.proofs.SourcePace.{regions_keep_pace}
 use Rattle.pc_compile.proofs.laws.laws_of_pace.Goals as goal
@@ -15,6 +15,9 @@ returns-clause-costs c = steps_cost_few
 
 pub returns-clause-emitted : goal.returns-clause-emitted
 returns-clause-emitted c = emitted_rows_keep_pace
+
+pub returns-clause-recolored : goal.returns-clause-recolored
+returns-clause-recolored c = recolored_codes_keep_pace
 
 pub returns-clause-tightened : goal.returns-clause-tightened
 returns-clause-tightened c = tightened_codes_keep_pace
