@@ -1,5 +1,5 @@
 //! A cycle is run, and tells what it did.
-ghost use Rattle.std.specs.Prelude.{◌≡◌, ◌++◌, false, length, map, IfOk, OnOk};
+ghost use Rattle.std.specs.Prelude.{◌≡◌, ◌++◌, false, length, map, IfOk, OnErr, OnOk};
 ghost use Rattle.pc_machine.specs.MachineCode.{code_of, row_of};
 ghost use Rattle.pc_machine.specs.MachineRun.{machine_step};
 ghost use Rattle.pc_vm.specs.Standing.{here_of};
@@ -43,6 +43,7 @@ pub fn trace_cycle(alloc: Global, machine: &mut Machine) -> Result<TracedCycle, 
     requires { machine.old.over ≡ false }
     ensures cycle { IfOk result (λ cycle. cycle_of cycle ≡ cycle_at (code_of machine.old.code) (here_of machine.old)) }
     ensures step { IfOk result (λ cycle. Moves cycle.end machine.new (machine_step (code_of machine.old.code) (here_of machine.old))) }
+    ensures untouched { OnErr result (machine.new ≡ machine.old) }
     ensures code { machine.new.code ≡ machine.old.code }
 {
     let walk = follow(alloc, machine)?;

@@ -17,7 +17,8 @@ use std::alloc::{AllocError, Global};
 /// the number of the cycle, from 1, and of its row; the sides that were taken at its tests; what was written to
 /// registers, read, stored and printed; and how the run ended, if it did.
 ///
-/// The text takes memory for each of these cycles. An error is want of memory.
+/// The text takes memory for each of these cycles. An error is want of memory; then the machine stands where one of them
+/// begins or ends. Without one it stands after the last of them.
 pub fn trace_text(alloc: Global, machine: &mut Machine, cycles: u64) -> Result<Vec<u8>, AllocError>
     requires { machine.old.over ≡ false }
     ensures text { IfOk result (λ text. text.items ≡ trace_text (code_of machine.old.code) cycles (here_of machine.old)) }
