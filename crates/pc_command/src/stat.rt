@@ -25,7 +25,7 @@ pub enum StatMode {
     Trace { cycles: u64 },
     /// The graph of the object in the language DOT, each row shaded by how often it ran.
     Dot,
-    /// The facts of the summary and of the listing as JSON.
+    /// The counts of the summary, of the rows and of their leaves, as JSON.
     Json,
 }
 

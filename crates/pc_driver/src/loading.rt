@@ -17,7 +17,8 @@ use pc_report::InputFault;
 use pc_word::{MOST_INPUT, MOST_OBJECT, WordList, read_numbers};
 use std::alloc::Global;
 
-/// The object of a file.
+/// The object of a file of at most 16,777,216 bytes. It stops where the file could not be read, is longer, or holds
+/// no object that loads, and where memory runs out.
 pub fn load<H: Shelf>(alloc: Global, name: &str, shelf: &mut H) -> Result<Object, Stop>
     ensures object { MatchResult result (λ object. Holds (H.state shelf.old).held name.now (object_of object))
         (λ stop. StopsAtObject name.now (H.state shelf.old) (H.state shelf.new) stop) }
@@ -27,7 +28,8 @@ pub fn load<H: Shelf>(alloc: Global, name: &str, shelf: &mut H) -> Result<Object
     Ok(decode(alloc, bytes.as_slice())?)
 }
 
-/// The numbers of the input, of which it takes at most one byte more than it may have.
+/// The numbers of the input, of which it takes at most one byte more than the 16,777,216 that it may have. It stops
+/// where the input could not be read, is longer, or has a word that is no number, and where memory runs out.
 pub fn take_numbers<I: Source>(alloc: Global, input: &mut I) -> Result<WordList, Stop>
     ensures numbers { MatchResult result (λ numbers. SpellsInput (I.left input.old) numbers)
         (λ stop. StopsAtInput (streamed (I.left input.old) (I.faults input.old)) (streamed (I.left input.new) (I.faults input.new)) stop) }

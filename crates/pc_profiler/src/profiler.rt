@@ -31,8 +31,8 @@ use std::alloc::Global;
 /// - 1: memory ran out,
 /// - 2: the words are no command,
 /// - 3: OBJ or the input could not be read,
-/// - 4: OBJ is longer than 16,777,216 bytes, or holds no object that loads; or the input is as long, or a word of it
-///   is no number,
+/// - 4: OBJ is longer than 16,777,216 bytes, or holds no object that loads; or the input is longer than that, or a
+///   word of it is no number,
 /// - 5: the output failed, and a proper prefix of the text was sent; or the error output failed on the line
 ///   of another status.
 ///

@@ -6,6 +6,8 @@ mod command;
 #[cfg(test)]
 mod driver;
 #[cfg(test)]
+mod faults;
+#[cfg(test)]
 mod outside;
 #[cfg(test)]
 mod profiler;
