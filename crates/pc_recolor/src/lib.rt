@@ -2,17 +2,23 @@
 #![tactic(auto)]
 
 mod checking;
+mod choice;
 mod homes;
 mod kept;
+mod knots;
 mod laws;
 mod liveness;
+mod loops;
 mod naming;
 mod nodes;
+mod pace;
 mod painting;
 mod path;
+mod phases;
 mod recoloring;
 mod register_set;
 mod size;
+mod tails;
 mod webs;
 mod witness;
 

@@ -5,6 +5,43 @@ use pc_machine::{Leaf, Tree};
 use pc_word::RowTree;
 use std::alloc::{AllocError, Global};
 
+/// The registers that rows need, and numbers for them.
+#[derive(Drop)]
+pub(crate) struct Liveness {
+    /// The registers that each row needs.
+    rows: Vec<RegisterSet>,
+    /// The node of the first of these, of each row.
+    nodes: Vec<u32>,
+    /// How many nodes there are.
+    count: u32,
+}
+
+impl Liveness {
+    /// The registers that a row needs.
+    pub(crate) fn of_row(&self, row: u32) -> RegisterSet {
+        self.rows
+            .get(row as usize)
+            .copied()
+            .unwrap_or(RegisterSet::none())
+    }
+
+    /// The registers that the row to which a leaf leads needs.
+    pub(crate) fn behind(&self, leaf: Leaf) -> RegisterSet {
+        needed_at(&self.rows, leaf)
+    }
+
+    /// The node of a register that a row needs.
+    pub(crate) fn node(&self, row: u32, register: u32) -> u32 {
+        let first = self.nodes.get(row as usize).copied().unwrap_or(0);
+        first.wrapping_add(self.of_row(row).rank(register))
+    }
+
+    /// How many nodes there are, one for each register that a row needs.
+    pub(crate) fn count(&self) -> u32 {
+        self.count
+    }
+}
+
 /// What a row, or what is left of one, needs: the registers that items and tests read, and those whose
 /// values it passes on.
 #[derive(Clone, Copy, Debug)]
@@ -14,7 +51,7 @@ struct Needs {
 }
 
 /// The registers that the row to which a leaf leads needs.
-pub(crate) fn needed_at(live: &[RegisterSet], leaf: Leaf) -> RegisterSet {
+fn needed_at(live: &[RegisterSet], leaf: Leaf) -> RegisterSet {
     match leaf.target() {
         Some(row) => live
             .get(row as usize)
@@ -76,16 +113,31 @@ fn round(live: &mut [RegisterSet], rows: &[Tree]) -> bool {
     changed
 }
 
+/// Sees to the rows until none needs more than was known.
+fn rounds(live: &mut [RegisterSet], rows: &[Tree]) {
+    for _turn in 0..u64::MAX {
+        if !round(live, rows) {
+            return;
+        }
+    }
+}
+
 /// The registers that each row needs: those whose values something reads that is itself needed.
-pub(crate) fn liveness(alloc: Global, rows: &[Tree]) -> Result<Vec<RegisterSet>, AllocError> {
+pub(crate) fn liveness_of(alloc: Global, rows: &[Tree]) -> Result<Liveness, AllocError> {
     let mut live = Vec::new(alloc);
     for _row in rows {
         live.push(RegisterSet::none())?;
     }
-    for _turn in 0..u64::MAX {
-        if !round(&mut live, rows) {
-            return Ok(live);
-        }
+    rounds(&mut live, rows);
+    let mut nodes = Vec::new(alloc);
+    let mut count: u32 = 0;
+    for set in &live {
+        nodes.push(count)?;
+        count = count.wrapping_add(set.count());
     }
-    Ok(live)
+    Ok(Liveness {
+        rows: live,
+        nodes,
+        count,
+    })
 }

@@ -1,14 +1,9 @@
 //! Values that are to have one register: a register that a row needs, and all that comes from it.
-use crate::liveness::needed_at;
+use crate::liveness::Liveness;
 use crate::register_set::RegisterSet;
 use pc_machine::{Leaf, Tree};
 use pc_word::RowTree;
 use std::alloc::{AllocError, Global};
-
-/// The node of a register that a row needs.
-pub(crate) fn node_of(row: u32, register: u32) -> u32 {
-    row.wrapping_mul(256).wrapping_add(register)
-}
 
 /// Sets of nodes that are to have one register, as trees of numbers: each node names one that is not
 /// greater, the least of a set itself (Galler and Fischer 1964).
@@ -18,15 +13,11 @@ pub(crate) struct NodeSets {
 }
 
 impl NodeSets {
-    /// Each register of each row by itself.
-    pub(crate) fn new(alloc: Global, rows: usize) -> Result<NodeSets, AllocError> {
+    /// So many nodes, each by itself.
+    pub(crate) fn new(alloc: Global, count: u32) -> Result<NodeSets, AllocError> {
         let mut up = Vec::new(alloc);
-        let mut node: u32 = 0;
-        for _row in 0..rows {
-            for _register in 0..256 {
-                up.push(node)?;
-                node = node.wrapping_add(1);
-            }
+        for node in 0..count {
+            up.push(node)?;
         }
         Ok(NodeSets { up })
     }
@@ -66,7 +57,7 @@ impl NodeSets {
     }
 
     /// Joins the nodes of a register in all rows to which a tree leads that need it with a node.
-    fn join_below(&mut self, live: &[RegisterSet], tree: &Tree, register: u32, node: u32) {
+    fn join_below(&mut self, live: &Liveness, tree: &Tree, register: u32, node: u32) {
         match tree {
             RowTree::Step { next, .. } => self.join_below(live, next, register, node),
             RowTree::Test { yes, no, .. } => {
@@ -82,13 +73,15 @@ impl NodeSets {
     }
 
     /// Joins what a leaf passes on, which is not written on its path, with where it comes from.
-    fn join_at(&mut self, live: &[RegisterSet], row: u32, leaf: Leaf, written: RegisterSet) {
+    fn join_at(&mut self, live: &Liveness, row: u32, leaf: Leaf, written: RegisterSet) {
         if let Some(to) = leaf.target() {
-            let needed = needed_at(live, leaf);
-            for register in 0..256 {
-                if needed.contains(register) && !written.contains(register) {
-                    self.join(node_of(to, register), node_of(row, register));
-                }
+            let mut passed = live.behind(leaf).without_all(written);
+            for _register in 0..256 {
+                let Some(register) = passed.least() else {
+                    return;
+                };
+                self.join(live.node(to, register), live.node(row, register));
+                passed = passed.without(register);
             }
         }
     }
@@ -96,7 +89,7 @@ impl NodeSets {
     /// Joins what a row, or what is left of one, passes on with where it comes from.
     pub(crate) fn join_row(
         &mut self,
-        live: &[RegisterSet],
+        live: &Liveness,
         row: u32,
         tree: &Tree,
         written: RegisterSet,
@@ -121,11 +114,11 @@ impl NodeSets {
 }
 
 /// The node of a register in the row to which a leaf leads, if that needs it.
-fn node_at(live: &[RegisterSet], leaf: Leaf, register: u32) -> Option<u32> {
+fn node_at(live: &Liveness, leaf: Leaf, register: u32) -> Option<u32> {
     match leaf.target() {
         Some(row) => {
-            if needed_at(live, leaf).contains(register) {
-                Some(node_of(row, register))
+            if live.behind(leaf).contains(register) {
+                Some(live.node(row, register))
             } else {
                 None
             }
@@ -135,7 +128,7 @@ fn node_at(live: &[RegisterSet], leaf: Leaf, register: u32) -> Option<u32> {
 }
 
 /// The node of a register in the first row to which a tree leads that needs it.
-pub(crate) fn node_below(live: &[RegisterSet], tree: &Tree, register: u32) -> Option<u32> {
+pub(crate) fn node_below(live: &Liveness, tree: &Tree, register: u32) -> Option<u32> {
     match tree {
         RowTree::Step { next, .. } => node_below(live, next, register),
         RowTree::Test { yes, no, .. } => match node_below(live, yes, register) {
@@ -149,10 +142,10 @@ pub(crate) fn node_below(live: &[RegisterSet], tree: &Tree, register: u32) -> Op
 /// The sets of nodes of rows.
 pub(crate) fn node_sets(
     alloc: Global,
-    live: &[RegisterSet],
+    live: &Liveness,
     rows: &[Tree],
 ) -> Result<NodeSets, AllocError> {
-    let mut sets = NodeSets::new(alloc, rows.len())?;
+    let mut sets = NodeSets::new(alloc, live.count())?;
     let mut row = 0;
     for tree in rows {
         sets.join_row(live, row, tree, RegisterSet::none());

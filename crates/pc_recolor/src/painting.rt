@@ -1,7 +1,8 @@
 //! Rows with the registers that their webs have.
 use crate::checking::only_gives;
-use crate::liveness::liveness;
-use crate::nodes::{NodeSets, node_below, node_of, node_sets};
+use crate::liveness::{Liveness, liveness_of};
+use crate::nodes::{NodeSets, node_below, node_sets};
+use crate::phases::Phased;
 use crate::register_set::RegisterSet;
 use crate::webs::{Webs, count_leaves, set_at};
 use crate::witness::{Holding, RowWitness};
@@ -13,7 +14,7 @@ use std::alloc::{AllocError, Global};
 #[derive(Drop)]
 struct Painting {
     /// What each row needs.
-    live: Vec<RegisterSet>,
+    live: Liveness,
     sets: NodeSets,
     /// The register of each node that is the least of its set.
     places: Vec<u8>,
@@ -40,7 +41,7 @@ impl Painting {
     fn operand(&self, row: u32, operand: Operand) -> Operand {
         match operand {
             Operand::Name(register) => {
-                Operand::Name(u32::from(self.place(node_of(row, register))))
+                Operand::Name(u32::from(self.place(self.live.node(row, register))))
             }
             Operand::Lit(value) => Operand::Lit(value),
         }
@@ -149,16 +150,13 @@ impl Painting {
 
     /// What is told of a row: where it finds the values that it needs.
     fn told(&self, alloc: Global, row: u32, origin: u32) -> Result<RowWitness, AllocError> {
-        let needed = self
-            .live
-            .get(row as usize)
-            .copied()
-            .unwrap_or(RegisterSet::none());
+        let mut needed = self.live.of_row(row);
         let mut held = Vec::new(alloc);
         for register in 0..=u8::MAX {
-            if needed.contains(register as u32) {
-                let place = self.place(node_of(row, register as u32));
+            if needed.least() == Some(register as u32) {
+                let place = self.place(self.live.node(row, register as u32));
                 held.push(Holding { register, place })?;
+                needed = needed.without(register as u32);
             }
         }
         Ok(RowWitness {
@@ -167,16 +165,17 @@ impl Painting {
         })
     }
 
-    /// All rows with their registers, each of which is to do the row with its number.
-    fn made(&self, alloc: Global, rows: &[Tree]) -> Result<Made, AllocError> {
+    /// All rows with their registers, each of which is to do its origin.
+    fn made(&self, alloc: Global, phased: &Phased) -> Result<Made, AllocError> {
         let mut made = Vec::new(alloc);
         let mut told = Vec::new(alloc);
         let mut row: u32 = 0;
         let mut point: u32 = 0;
-        for tree in rows {
+        for tree in &phased.rows {
             let first = point.wrapping_add(1);
+            let origin = phased.origins.get(row as usize).copied().unwrap_or(0);
             made.push(self.painted(alloc, row, tree, first)?)?;
-            told.push(self.told(alloc, row, row)?)?;
+            told.push(self.told(alloc, row, origin)?)?;
             point = first.wrapping_add(count_leaves(tree));
             row = row.wrapping_add(1);
         }
@@ -196,13 +195,13 @@ fn is_copy_of(item: Item, place: u8) -> bool {
 }
 
 /// An item, and a tree below it.
-fn step(alloc: Global, item: Item, below: Tree) -> Result<Tree, AllocError> {
+pub(crate) fn step(alloc: Global, item: Item, below: Tree) -> Result<Tree, AllocError> {
     let next = Box::new(alloc, below)?;
     Ok(RowTree::Step { item, next })
 }
 
 /// A test, and its sides.
-fn test(alloc: Global, on: Operand, yes: Tree, no: Tree) -> Result<Tree, AllocError> {
+pub(crate) fn test(alloc: Global, on: Operand, yes: Tree, no: Tree) -> Result<Tree, AllocError> {
     let yes = Box::new(alloc, yes)?;
     let no = Box::new(alloc, no)?;
     Ok(RowTree::Test { on, yes, no })
@@ -220,27 +219,29 @@ fn no_sets(alloc: Global, rows: &[Tree]) -> Result<Vec<RegisterSet>, AllocError>
     Ok(sets)
 }
 
-/// As many places as there are nodes.
-fn no_places(alloc: Global, rows: &[Tree]) -> Result<Vec<u8>, AllocError> {
+/// So many places.
+fn no_places(alloc: Global, count: u32) -> Result<Vec<u8>, AllocError> {
     let mut places = Vec::new(alloc);
-    for _row in rows {
-        for _register in 0..256 {
-            places.push(0)?;
-        }
+    for _node in 0..count {
+        places.push(0)?;
     }
     Ok(places)
 }
 
-/// Merges the webs of copies, row by row.
+/// Merges the webs of copies, row by row, of the rows that stand in loops, or of those that do not.
 fn merge_all(
     webs: &mut Webs,
-    live: &[RegisterSet],
+    live: &Liveness,
     sets: &mut NodeSets,
-    rows: &[Tree],
+    phased: &Phased,
+    in_loops: bool,
 ) -> Result<(), OutOfMemory> {
     let mut row: u32 = 0;
-    for tree in rows {
-        webs.merge_copies(live, sets, row, tree)?;
+    for tree in &phased.rows {
+        let within = phased.loops.get(row as usize).copied().unwrap_or(None);
+        if within.is_some() == in_loops {
+            webs.merge_copies(live, sets, row, tree)?;
+        }
         row = row.wrapping_add(1);
     }
     Ok(())
@@ -253,14 +254,16 @@ fn merge_all(
 pub(crate) fn painted_rows(
     alloc: Global,
     registers: u16,
-    rows: &[Tree],
+    phased: &Phased,
 ) -> Result<Option<Made>, OutOfMemory> {
-    let live = liveness(alloc, rows)?;
+    let rows = phased.rows.as_slice();
+    let live = liveness_of(alloc, rows)?;
     let mut sets = node_sets(alloc, &live, rows)?;
     let mut webs = Webs::of(alloc, &live, &sets, rows)?;
-    merge_all(&mut webs, &live, &mut sets, rows)?;
+    merge_all(&mut webs, &live, &mut sets, phased, true)?;
+    merge_all(&mut webs, &live, &mut sets, phased, false)?;
     let mut taken = no_sets(alloc, rows)?;
-    let mut places = no_places(alloc, rows)?;
+    let mut places = no_places(alloc, live.count())?;
     if !webs.colour(alloc, &mut taken, &mut places, registers)? {
         return Ok(None);
     }
@@ -271,6 +274,6 @@ pub(crate) fn painted_rows(
         taken,
         registers,
     };
-    let made = painting.made(alloc, rows)?;
+    let made = painting.made(alloc, phased)?;
     Ok(Some(made))
 }

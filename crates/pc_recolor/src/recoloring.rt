@@ -6,9 +6,15 @@ ghost use Rattle.pc_recolor.specs.Recolored.{IsRecolored, IsRecoloredAndTightene
 ghost use Rattle.pc_recolor.specs.models.Recoloring.{AreAnew, with_rows};
 
 use crate::checking::is_renaming;
+use crate::choice::{Choice, one_phase};
+use crate::knots::Knots;
+use crate::loops::Loops;
 use crate::naming::are_named_in_order;
+use crate::pace::{Cover, Paces};
 use crate::painting::{Made, painted_rows};
+use crate::phases::{MOST_PHASES, Phased, in_phases};
 use crate::size::fit;
+use crate::tails::Tails;
 use pc_machine::{Code, Tree, TreeList};
 use pc_tighten::tighten;
 use pc_word::{DataList, LengthList, OutOfMemory, WordList};
@@ -26,17 +32,18 @@ fn is_made(registers: u16, most: usize, rows: &[Tree], made: &Made) -> bool
     is_renaming(registers, &made.told, rows, after)
 }
 
-/// Rows that do these with other registers, of so many, in so many bytes; `None` where the registers
+/// Rows that do these with other registers, of so many, in so many bytes, as they stand in phases; `None` where the registers
 /// or the bytes do not suffice, or the checker refuses what was made.
 fn rows_anew(
     alloc: Global,
     registers: u16,
     most: usize,
     rows: &[Tree],
+    phased: &Phased,
 ) -> Result<Option<TreeList>, OutOfMemory>
     ensures { IfOk result (λ found. IfSome found (λ after. AreAnew registers most (rows_of rows.now) (rows_of after))) }
 {
-    match painted_rows(alloc, registers, rows)? {
+    match painted_rows(alloc, registers, phased)? {
         Some(made) => {
             if is_made(registers, most, rows, &made) {
                 let Made { rows, told } = made;
@@ -76,12 +83,17 @@ fn with_rows(alloc: Global, code: &Code, rows: TreeList) -> Result<Code, AllocEr
     })
 }
 
-/// The code with other registers, in so many bytes, if it could be had.
+/// The code with other registers, in so many bytes, as its rows stand in phases, if it could be had.
 #[tactic(auto, using(crate::proofs::Recolored::code_laws))]
-fn recolored(alloc: Global, code: &Code, most: usize) -> Result<Option<Code>, OutOfMemory>
+fn recolored(
+    alloc: Global,
+    code: &Code,
+    most: usize,
+    phased: &Phased,
+) -> Result<Option<Code>, OutOfMemory>
     ensures { IfOk result (λ found. IfSome found (λ after. IsRecolored most (code_of code.now) (code_of after))) }
 {
-    match rows_anew(alloc, code.registers, most, code.rows.as_slice())? {
+    match rows_anew(alloc, code.registers, most, code.rows.as_slice(), phased)? {
         Some(rows) => {
             let after = with_rows(alloc, code, rows)?;
             Ok(Some(after))
@@ -90,18 +102,110 @@ fn recolored(alloc: Global, code: &Code, most: usize) -> Result<Option<Code>, Ou
     }
 }
 
-/// The code with other registers, in so many bytes, and tightened, if it could be had.
+/// No phases are tried with which the rows of a code times the phases are more than this, so that a long code does not
+/// take many times as long.
+const MOST_ROWS: usize = 1024;
+
+/// What the rows of a code lead to, and the loops among them.
+#[derive(Drop)]
+struct Shape {
+    knots: Knots,
+    loops: Loops,
+    tails: Tails,
+}
+
+/// The shape of rows.
+fn shape_of(alloc: Global, rows: &[Tree]) -> Result<Shape, AllocError> {
+    let knots = Knots::of(alloc, rows)?;
+    let loops = Loops::of(alloc, rows, &knots)?;
+    let tails = Tails::of(alloc, rows, &loops)?;
+    Ok(Shape {
+        knots,
+        loops,
+        tails,
+    })
+}
+
+/// A code with other registers, and tightened, and what is known of it.
+#[derive(Drop)]
+struct Tried {
+    code: Code,
+    cover: Cover,
+    knots: Knots,
+    /// How many rows of copies each loop keeps.
+    kept: Vec<u32>,
+}
+
+/// The code with other registers, each loop in so many phases, and tightened, if it could be had.
 #[tactic(auto, using(crate::proofs::Recolored::tightened_laws))]
-fn anew(alloc: Global, code: &Code, most: usize) -> Result<Option<Code>, OutOfMemory>
+fn attempt(
+    alloc: Global,
+    code: &Code,
+    most: usize,
+    shape: &Shape,
+    phases: &[u8],
+) -> Result<Option<Tried>, OutOfMemory>
     requires { WellFormed (code_of code.now) }
-    ensures { IfOk result (λ found. IfSome found (λ after. IsRecoloredAndTightened most (code_of code.now) (code_of after))) }
+    ensures { IfOk result (λ found. IfSome found (λ tried. IsRecoloredAndTightened most (code_of code.now) (code_of tried.code))) }
 {
-    match recolored(alloc, code, most)? {
+    let phased = in_phases(
+        alloc,
+        code.rows.as_slice(),
+        &shape.loops,
+        &shape.tails,
+        phases,
+    )?;
+    match recolored(alloc, code, most, &phased)? {
         Some(between) => {
-            let after = tighten(alloc, between)?;
-            Ok(Some(after))
+            let cover = Cover::of(alloc, &phased)?;
+            let code = tighten(alloc, between)?;
+            let knots = Knots::of(alloc, code.rows.as_slice())?;
+            let kept = cover.copies_kept(alloc, shape.loops.count(), &knots)?;
+            Ok(Some(Tried {
+                code,
+                cover,
+                knots,
+                kept,
+            }))
         }
         None => Ok(None),
+    }
+}
+
+/// The code with other registers, and tightened, with as many phases of each loop as help.
+fn best(
+    alloc: Global,
+    code: &Code,
+    most: usize,
+    shape: &Shape,
+) -> Result<Option<Tried>, OutOfMemory>
+    requires { WellFormed (code_of code.now) }
+    ensures { IfOk result (λ found. IfSome found (λ tried. IsRecoloredAndTightened most (code_of code.now) (code_of tried.code))) }
+{
+    let ones = one_phase(alloc, shape.loops.count())?;
+    let Some(first) = attempt(alloc, code, most, shape, &ones)? else {
+        return Ok(None);
+    };
+    let mut choice = Choice::of_one_phase(alloc, &first.kept)?;
+    let mut best = first;
+    for phases in 2..=MOST_PHASES {
+        if choice.is_settled() || MOST_ROWS / (phases as usize) < code.rows.len() {
+            break;
+        }
+        let trial = choice.trial(alloc, phases)?;
+        let Some(found) = attempt(alloc, code, most, shape, &trial)? else {
+            break;
+        };
+        if choice.learns(phases, &found.kept) {
+            best = found;
+        }
+    }
+    if choice.is_made {
+        return Ok(Some(best));
+    }
+    match attempt(alloc, code, most, shape, &choice.phases)? {
+        Some(found) => Ok(Some(found)),
+        None => Ok(Some(best)),
     }
 }
 
@@ -115,27 +219,42 @@ fn as_it_is(alloc: Global, code: Code, most: usize) -> Result<Code, OutOfMemory>
     Ok(after)
 }
 
-/// Whether a code is to be taken in place of another one.
-fn is_no_slower(after: &Code, other: &Code) -> bool {
-    after.rows.len() <= other.rows.len()
+/// Whether no loop takes more cycles in a code with other registers than in the code as it was, both of them tightened.
+fn is_no_slower(
+    alloc: Global,
+    shape: &Shape,
+    tried: &Tried,
+    other: &Code,
+) -> Result<bool, AllocError> {
+    let knots = Knots::of(alloc, other.rows.as_slice())?;
+    let paces = Paces {
+        cover: &tried.cover,
+        after: &tried.knots,
+        before: &shape.knots,
+        other: &knots,
+    };
+    paces.are_no_slower(alloc)
 }
 
 /// The code with registers chosen anew over its rows, so that the values of a copy share one where they may, and
-/// without such copies and without items that nothing needs, and tightened then; no clause says which these are.
-/// Its registers are as before, and only tightened, where these do not suffice, where its rows would have more than
-/// `most` bytes, or where the checker refuses what was made.
+/// without such copies and without items that nothing needs, and tightened then; no clause says which these are. Loops that
+/// keep rows of copies stand in several phases, as in modulo variable expansion (Lam 1988), where that takes at least half
+/// of them away. It is only tightened where the registers do not suffice, where its rows would have more than `most` bytes,
+/// where the checker refuses what was made, or where an innermost loop would take more cycles than without.
 ///
 /// `Memory` is the only error.
 pub fn recolor_and_tighten(alloc: Global, code: Code, most: usize) -> Result<Code, OutOfMemory>
     requires { WellFormed (code_of code) }
     ensures { IfOk result (λ after. IsRecoloredAndTightened most (code_of code) (code_of after)) }
 {
-    let tried = anew(alloc, &code, most)?;
+    let shape = shape_of(alloc, code.rows.as_slice())?;
+    let best = best(alloc, &code, most, &shape)?;
     let other = as_it_is(alloc, code, most)?;
-    match tried {
-        Some(after) => {
-            if is_no_slower(&after, &other) {
-                Ok(after)
+    match best {
+        Some(tried) => {
+            if is_no_slower(alloc, &shape, &tried, &other)? {
+                let Tried { code, .. } = tried;
+                Ok(code)
             } else {
                 Ok(other)
             }

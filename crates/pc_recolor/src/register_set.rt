@@ -76,15 +76,67 @@ impl RegisterSet {
         }
     }
 
+    /// The registers of a set that are not in another.
+    pub(crate) fn without_all(self, other: RegisterSet) -> RegisterSet {
+        RegisterSet {
+            low: self.low & !other.low,
+            high: self.high & !other.high,
+        }
+    }
+
+    /// The least register of the set.
+    pub(crate) fn least(self) -> Option<u32> {
+        if self.low != 0 {
+            return Some(self.low.trailing_zeros());
+        }
+        if self.high != 0 {
+            return Some(self.high.trailing_zeros().wrapping_add(128));
+        }
+        None
+    }
+
+    /// How many registers of the set are less than one.
+    pub(crate) fn rank(self, register: u32) -> u32 {
+        let below = RegisterSet::below(register);
+        let low = (self.low & below.low).count_ones();
+        let high = (self.high & below.high).count_ones();
+        low.wrapping_add(high)
+    }
+
+    /// How many registers the set has.
+    pub(crate) fn count(self) -> u32 {
+        self.low.count_ones().wrapping_add(self.high.count_ones())
+    }
+
+    /// The set of all registers that are less than one.
+    fn below(register: u32) -> RegisterSet {
+        if register < 128 {
+            RegisterSet {
+                low: (1 << register) - 1,
+                high: 0,
+            }
+        } else if register < 256 {
+            RegisterSet {
+                low: u128::MAX,
+                high: (1 << (register - 128)) - 1,
+            }
+        } else {
+            RegisterSet {
+                low: u128::MAX,
+                high: u128::MAX,
+            }
+        }
+    }
+
     /// The least of so many registers that is not in the set.
     pub(crate) fn least_other(self, registers: u16) -> Option<u8> {
-        for register in 0..=u8::MAX {
-            if !self.contains(register as u32) {
-                if (register as u16) < registers {
-                    return Some(register);
-                }
-                return None;
-            }
+        let others = RegisterSet {
+            low: !self.low,
+            high: !self.high,
+        };
+        let register = others.least()?;
+        if register < registers as u32 {
+            return u8::try_from(register).ok();
         }
         None
     }

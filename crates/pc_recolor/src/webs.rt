@@ -1,7 +1,7 @@
 //! Where each set of nodes has its register: at the points at which registers must be apart.
 use crate::checking::only_gives;
-use crate::liveness::needed_at;
-use crate::nodes::{NodeSets, node_below, node_of};
+use crate::liveness::Liveness;
+use crate::nodes::{NodeSets, node_below};
 use crate::register_set::RegisterSet;
 use pc_arena::{Arena, NodeId};
 use pc_machine::{Leaf, Tree};
@@ -75,10 +75,18 @@ fn push_new(points: &mut Vec<u32>, point: u32) -> Result<(), AllocError> {
     Ok(())
 }
 
-/// Whether two webs share no point.
+/// Whether two webs share no point. It takes time in proportion to the shorter one.
 fn are_apart(one: &[u32], other: &[u32]) -> bool {
-    for point in one {
-        if other.binary_search(point).is_ok() {
+    if other.len() < one.len() {
+        return are_found_nowhere(other, one);
+    }
+    are_found_nowhere(one, other)
+}
+
+/// Whether no point of a web is one of another, which is in order.
+fn are_found_nowhere(points: &[u32], among: &[u32]) -> bool {
+    for point in points {
+        if among.binary_search(point).is_ok() {
             return false;
         }
     }
@@ -107,16 +115,15 @@ pub(crate) fn count_leaves(tree: &Tree) -> u32 {
 fn hold_needed(
     alloc: Global,
     gathering: &mut Gathering,
+    live: &Liveness,
     sets: &NodeSets,
-    needed: RegisterSet,
     row: u32,
     point: u32,
 ) -> Result<(), AllocError> {
-    for register in 0..256 {
-        if needed.contains(register) {
-            let least = sets.least(node_of(row, register));
-            gathering.hold(alloc, least, point)?;
-        }
+    let first = live.node(row, 0);
+    for rank in 0..live.of_row(row).count() {
+        let least = sets.least(first.wrapping_add(rank));
+        gathering.hold(alloc, least, point)?;
     }
     Ok(())
 }
@@ -126,7 +133,7 @@ fn hold_needed(
 fn hold_at_end(
     alloc: Global,
     gathering: &mut Gathering,
-    live: &[RegisterSet],
+    live: &Liveness,
     sets: &NodeSets,
     leaf: Leaf,
     written: &[Option<u32>],
@@ -141,7 +148,7 @@ fn hold_at_end(
         }
     }
     match leaf.target() {
-        Some(row) => hold_needed(alloc, gathering, sets, needed_at(live, leaf), row, point),
+        Some(row) => hold_needed(alloc, gathering, live, sets, row, point),
         None => Ok(()),
     }
 }
@@ -151,7 +158,7 @@ fn hold_at_end(
 fn hold_below(
     alloc: Global,
     gathering: &mut Gathering,
-    live: &[RegisterSet],
+    live: &Liveness,
     sets: &NodeSets,
     tree: &Tree,
     written: &mut Vec<Option<u32>>,
@@ -187,7 +194,7 @@ fn hold_below(
 /// Gathers the points of webs, row by row: the beginning of the row, and the end of each of its paths.
 fn gathered(
     alloc: Global,
-    live: &[RegisterSet],
+    live: &Liveness,
     sets: &NodeSets,
     rows: &[Tree],
 ) -> Result<Gathering, AllocError> {
@@ -195,20 +202,14 @@ fn gathered(
         points: Vec::new(alloc),
         numbers: Vec::new(alloc),
     };
-    for _row in rows {
-        for _register in 0..256 {
-            gathering.numbers.push(None)?;
-        }
+    for _node in 0..live.count() {
+        gathering.numbers.push(None)?;
     }
     let mut row: u32 = 0;
     let mut point: u32 = 0;
     let mut written = Vec::new(alloc);
     for tree in rows {
-        let needed = live
-            .get(row as usize)
-            .copied()
-            .unwrap_or(RegisterSet::none());
-        hold_needed(alloc, &mut gathering, sets, needed, row, point)?;
+        hold_needed(alloc, &mut gathering, live, sets, row, point)?;
         let first = point.wrapping_add(1);
         hold_below(alloc, &mut gathering, live, sets, tree, &mut written, first)?;
         point = first.wrapping_add(count_leaves(tree));
@@ -221,7 +222,7 @@ impl Webs {
     /// The webs of rows.
     pub(crate) fn of(
         alloc: Global,
-        live: &[RegisterSet],
+        live: &Liveness,
         sets: &NodeSets,
         rows: &[Tree],
     ) -> Result<Webs, OutOfMemory> {
@@ -290,7 +291,7 @@ impl Webs {
     /// Merges the webs of each copy of a row, or of what is left of one.
     pub(crate) fn merge_copies(
         &mut self,
-        live: &[RegisterSet],
+        live: &Liveness,
         sets: &mut NodeSets,
         row: u32,
         tree: &Tree,
@@ -303,7 +304,7 @@ impl Webs {
                 } = item
                 {
                     if let Some(made) = node_below(live, next, *dest) {
-                        self.merge_copy(sets, made, node_of(row, *from))?;
+                        self.merge_copy(sets, made, live.node(row, *from))?;
                     }
                 }
                 self.merge_copies(live, sets, row, next)

@@ -191,12 +191,58 @@ const COPY_SIX_TO_FIVE: Item = Item::Copy {
     from: Operand::Name(6),
 };
 
+const SET_TWO_TO_ONE: Item = Item::Copy {
+    dest: 2,
+    from: Operand::Lit(1),
+};
+
+const READ_ONE: Item = Item::Read { dest: 1 };
+
+const ADD_TWO_AND_ZERO_GIVING_ONE: Item = Item::Bin {
+    op: OpCode::Add,
+    dest: 1,
+    left: Operand::Name(2),
+    right: Operand::Name(0),
+};
+
+const LESS_ONE_GIVING_TWO: Item = Item::Bin {
+    op: OpCode::Sub,
+    dest: 2,
+    left: Operand::Name(1),
+    right: Operand::Lit(1),
+};
+
+const LESS_TWO_GIVING_TWO: Item = Item::Bin {
+    op: OpCode::Sub,
+    dest: 2,
+    left: Operand::Name(2),
+    right: Operand::Lit(1),
+};
+
+const PRINT_TWO: Item = Item::Print {
+    value: Operand::Name(2),
+};
+
+const ADD_ZERO_AND_ONE_GIVING_ZERO: Item = Item::Bin {
+    op: OpCode::Add,
+    dest: 0,
+    left: Operand::Name(0),
+    right: Operand::Name(1),
+};
+
+const ADD_ONE_AND_ZERO_GIVING_ONE: Item = Item::Bin {
+    op: OpCode::Add,
+    dest: 1,
+    left: Operand::Name(1),
+    right: Operand::Name(0),
+};
+
 const READ_FOUR: Item = Item::Read { dest: 4 };
 
 const READ_ZERO: Item = Item::Read { dest: 0 };
 
 /// Codes, and the rows that are due.
-static CODES: [(&[(&[Item], End)], &[(&[Item], End)]); 3] = [
+static CODES: [(&[(&[Item], End)], &[(&[Item], End)]); 4] = [
     // what a loop passes on stands where it is read, so the copy at its back edge goes
     (
         &[
@@ -228,6 +274,32 @@ static CODES: [(&[(&[Item], End)], &[(&[Item], End)]); 3] = [
     (
         &[(&[SET_THREE_TO_NINE, STORE_TWO, READ_FOUR], End::Stop)],
         &[(&[STORE_ZERO, READ_ZERO], End::Stop)],
+    ),
+    // a value that goes from one register to another from turn to turn stays in its own in a loop of two phases
+    (
+        &[
+            (&[SET_FOUR_TO_ONE, SET_FIVE_TO_SEVEN, READ_THREE], End::Goto(1)),
+            (
+                &[ADD_FOUR_AND_FIVE_GIVING_SIX, LESS_ONE_THREE, PRINT_FOUR],
+                End::GotoUnless(3, 2),
+            ),
+            (&[COPY_FIVE_TO_FOUR, COPY_SIX_TO_FIVE], End::Goto(1)),
+        ],
+        &[
+            (&[SET_TWO_TO_ONE, SET_ZERO_TO_SEVEN, READ_ONE], End::Goto(1)),
+            (
+                &[ADD_TWO_AND_ZERO_GIVING_ONE, LESS_ONE_GIVING_TWO, PRINT_TWO],
+                End::GotoUnless(1, 2),
+            ),
+            (
+                &[ADD_ZERO_AND_ONE_GIVING_ZERO, LESS_TWO_GIVING_TWO, PRINT_ZERO],
+                End::GotoUnless(2, 3),
+            ),
+            (
+                &[ADD_ONE_AND_ZERO_GIVING_ONE, LESS_TWO_GIVING_TWO, PRINT_ONE],
+                End::GotoUnless(2, 2),
+            ),
+        ],
     ),
 ];
 
