@@ -265,7 +265,10 @@ static CODES: [(&[(&[Item], End)], &[(&[Item], End)]); 4] = [
         ],
         &[
             (&[SET_ZERO_TO_SEVEN], End::Goto(1)),
-            (&[COPY_ZERO_TO_ONE, ADD_ONE_TO_ZERO_GIVING_ZERO], End::Goto(2)),
+            (
+                &[COPY_ZERO_TO_ONE, ADD_ONE_TO_ZERO_GIVING_ZERO],
+                End::Goto(2),
+            ),
             (&[PRINT_ONE], End::Goto(3)),
             (&[PRINT_ZERO], End::Stop),
         ],
@@ -278,7 +281,10 @@ static CODES: [(&[(&[Item], End)], &[(&[Item], End)]); 4] = [
     // a value that goes from one register to another from turn to turn stays in its own in a loop of two phases
     (
         &[
-            (&[SET_FOUR_TO_ONE, SET_FIVE_TO_SEVEN, READ_THREE], End::Goto(1)),
+            (
+                &[SET_FOUR_TO_ONE, SET_FIVE_TO_SEVEN, READ_THREE],
+                End::Goto(1),
+            ),
             (
                 &[ADD_FOUR_AND_FIVE_GIVING_SIX, LESS_ONE_THREE, PRINT_FOUR],
                 End::GotoUnless(3, 2),
@@ -292,7 +298,11 @@ static CODES: [(&[(&[Item], End)], &[(&[Item], End)]); 4] = [
                 End::GotoUnless(1, 2),
             ),
             (
-                &[ADD_ZERO_AND_ONE_GIVING_ZERO, LESS_TWO_GIVING_TWO, PRINT_ZERO],
+                &[
+                    ADD_ZERO_AND_ONE_GIVING_ZERO,
+                    LESS_TWO_GIVING_TWO,
+                    PRINT_ZERO,
+                ],
                 End::GotoUnless(2, 3),
             ),
             (
