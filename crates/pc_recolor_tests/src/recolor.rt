@@ -1,6 +1,6 @@
 //! Rows whose registers are chosen anew.
 
-use pc_machine::{Code, FEW_REGISTERS, Leaf, Tree, TreeList};
+use pc_machine::{Code, FEW_REGISTERS, Leaf, Tree, TreeList, well_formed};
 use pc_recolor::recolor_and_tighten;
 use pc_word::{Item, LengthList, Limits, OpCode, Operand, OutOfMemory, RowTree, no_data};
 use std::alloc::{AllocError, Global};
@@ -66,13 +66,17 @@ fn text(alloc: Global, code: &Code) -> Result<String, AllocError> {
     format!(in alloc; "{:?}", code.rows.as_slice())
 }
 
-/// Whether rows with registers chosen anew are these.
+/// Whether rows are well formed, and with registers chosen anew and tightened are these.
 fn gives(
     alloc: Global,
     rows: &[(&[Item], End)],
     due: &[(&[Item], End)],
 ) -> Result<bool, OutOfMemory> {
-    let made = recolor_and_tighten(alloc, code(alloc, rows)?, 1000)?;
+    let before = code(alloc, rows)?;
+    if well_formed(&before).is_some() {
+        return Ok(false);
+    }
+    let made = recolor_and_tighten(alloc, before, 1000)?;
     let wanted = code(alloc, due)?;
     Ok(text(alloc, &made)? == text(alloc, &wanted)?)
 }
