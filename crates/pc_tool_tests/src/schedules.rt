@@ -33,7 +33,7 @@ const SCHEDULED: [Scheduled; 9] = [
     Scheduled {
         source: EXCHANGE,
         line: "a.c -o o.tv --report",
-        report: b"nodes 14\nrows 4\nloop 2: pipelined, rows 2 of 256\n",
+        report: b"nodes 14\nrows 5\nloop 2: pipelined, rows 2 of 256\n",
         input: b"",
         output: b"2\n1\n2\n1\n2\n",
     },
@@ -61,14 +61,14 @@ const SCHEDULED: [Scheduled; 9] = [
     Scheduled {
         source: EXCHANGE_MOSTLY,
         line: "a.c -o o.tv --report",
-        report: b"nodes 16\nrows 7\nloop 1: pipelined, rows 3 of 256\n",
+        report: b"nodes 16\nrows 6\nloop 1: pipelined, rows 3 of 256\n",
         input: b"",
         output: b"2\n1\n1\n2\n1\n",
     },
     Scheduled {
         source: DOT_PRODUCT,
         line: "a.c -o o.tv --report",
-        report: b"nodes 34\nrows 15\nloop 2: pipelined, rows 2 of 256\nloop 3: pipelined, rows 7 of 256\n",
+        report: b"nodes 34\nrows 12\nloop 2: pipelined, rows 2 of 256\nloop 3: pipelined, rows 7 of 256\n",
         input: b"",
         output: b"333300\n",
     },
@@ -89,7 +89,7 @@ const SCHEDULED: [Scheduled; 9] = [
     Scheduled {
         source: NESTED,
         line: "a.c -o o.tv --report",
-        report: b"nodes 19\nrows 11\nloop 3: pipelined, rows 4 of 256\nloop 5: pipelined, rows 1 of 256\n",
+        report: b"nodes 19\nrows 13\nloop 3: pipelined, rows 4 of 256\nloop 5: pipelined, rows 1 of 256\n",
         input: b"",
         output: b"0\n1\n2\n3\n",
     },
