@@ -10,7 +10,8 @@ use Rattle.pc_syntax.specs.declared.operator.BinaryOp.TheVariants.{Add, Sub, Div
 use Rattle.pc_syntax.specs.Source.{ResolvedProgram, Combined, Printing, Branch, Present}
 use Rattle.pc_meaning.specs.SourceRun.{outcome_of, source_run}
 use Rattle.pc_meaning.specs.Trace.{trace_of, Binary_node, Copy_node, Print_node, Read_node, More_node, Test_node}
-use Rattle.pc_meaning.proofs.Programs.{program, shown_by, passed_by, number, minus, scalar, at, read, on, plus, new, new_as, new_array, put, put_at, change_at, print, block, when, count, with_data, ended, trapped, going}
+use Rattle.pc_meaning.proofs.Programs.{program, shown_by, passed_by, number, minus, scalar, at, read, on, plus, new, new_as, new_array}
+use Rattle.pc_meaning.proofs.Programs.{put, put_at, change_at, print, block, when, count, with_data, ended, trapped, going}
 
 -- ---- words
 
