@@ -2,7 +2,8 @@
 use Rattle.std.proofs.Common.{◌≡◌, sym, ap, subst, ◌∙◌, List, [], ◌∷◌, ◌++◌, Some, Result, Ok, Err, IsErrAnd, IfErr, slice_get}
 use Rattle.pc_word.specs.Exact.{checked, IsRefusal, IsExact}
 use Rattle.pc_check.specs.declared.error.CheckError.{CheckError}
-use Rattle.pc_check.specs.declared.error.CheckError.TheVariants.{Undeclared, Redeclared, NotArray, NotScalar, BadSize, OutsideLoop, TooManyScalars, TooManyArrays, TooManyElements, TooManyValues, TooDeep, Memory}
+use Rattle.pc_check.specs.declared.error.CheckError.TheVariants.{Undeclared, Redeclared, NotArray, NotScalar, BadSize, OutsideLoop}
+use Rattle.pc_check.specs.declared.error.CheckError.TheVariants.{TooManyScalars, TooManyArrays, TooManyElements, TooManyValues, TooDeep, Memory}
 use Rattle.pc_check.specs.Checks.{check_cause}
 use Rattle.pc_check.specs.models.Resolves.{IsFirst}
 
