@@ -165,7 +165,8 @@ pub fn statement_size(statement: &Stmt) -> u32
             let turn = branch_size(step).saturating_add(statement_size(body));
             start.saturating_add(turn).saturating_add(1)
         }
-        Stmt::Array { .. } | Stmt::Break { .. } | Stmt::Continue { .. } | Stmt::Empty => 0,
+        Stmt::Array { .. } | Stmt::Break { .. } | Stmt::Continue { .. } => 0,
+        Stmt::Empty | Stmt::Call { .. } => 0,
     }
 }
 

@@ -231,6 +231,7 @@ fn check_statement(
         Stmt::Print { .. } | Stmt::Eval { .. } => check_plain(alloc, scopes, in_loop, from),
         Stmt::Return { .. } | Stmt::Break { .. } => check_plain(alloc, scopes, in_loop, from),
         Stmt::Continue { .. } | Stmt::Empty => check_plain(alloc, scopes, in_loop, from),
+        Stmt::Call { .. } => check_plain(alloc, scopes, in_loop, from),
     }
 }
 
@@ -276,6 +277,7 @@ fn check_for(
         Stmt::Scalar { .. } | Stmt::Array { .. } | Stmt::Assign { .. } => unreachable!(),
         Stmt::Print { .. } | Stmt::Eval { .. } | Stmt::Return { .. } => unreachable!(),
         Stmt::Break { .. } | Stmt::Continue { .. } | Stmt::Empty => unreachable!(),
+        Stmt::Call { .. } => unreachable!(),
     }
 }
 
@@ -316,7 +318,7 @@ fn check_written(
         Stmt::Block { .. } | Stmt::If { .. } | Stmt::While { .. } => unreachable!(),
         Stmt::Do { .. } | Stmt::For { .. } | Stmt::Print { .. } => unreachable!(),
         Stmt::Eval { .. } | Stmt::Break { .. } | Stmt::Continue { .. } => unreachable!(),
-        Stmt::Return { .. } | Stmt::Empty => unreachable!(),
+        Stmt::Return { .. } | Stmt::Empty | Stmt::Call { .. } => unreachable!(),
     }
 }
 
@@ -355,7 +357,7 @@ fn check_plain(
             let value = resolve_measured(alloc, scopes, *line, value)?;
             Ok(Stmt::Return { line: *line, value })
         }
-        Stmt::Empty => Ok(Stmt::Empty),
+        Stmt::Empty | Stmt::Call { .. } => Ok(Stmt::Empty),
         Stmt::Block { .. } | Stmt::If { .. } | Stmt::While { .. } => unreachable!(),
         Stmt::Do { .. } | Stmt::For { .. } | Stmt::Scalar { .. } => unreachable!(),
         Stmt::Array { .. } | Stmt::Assign { .. } => unreachable!(),

@@ -134,7 +134,7 @@ const PRINT: Item = Item::Print {
 const READ: Item = Item::Read { dest: 15 };
 
 /// Codes, and the rows that are due.
-static CODES: [(&[(&[Item], End)], &[(&[Item], End)]); 13] = [
+static CODES: [(&[(&[Item], End)], &[(&[Item], End)]); 14] = [
     // items climb, one of them two rows, and the row that is left as a goto alone goes
     (
         &[(&[], End::Goto(1)), (&[A], End::Goto(2)), (&[B], End::Stop)],
@@ -212,6 +212,15 @@ static CODES: [(&[(&[Item], End)], &[(&[Item], End)]); 13] = [
             (&[D], End::Fork(0, 3)),
         ],
         &[(&[A, B, C], End::Goto(1)), (&[D], End::Fork(0, 1))],
+    ),
+    // a row that is a goto alone goes before an item below a full row could come to stand in it
+    (
+        &[
+            (&[A, B, C], End::Goto(1)),
+            (&[], End::Goto(2)),
+            (&[D], End::Stop),
+        ],
+        &[(&[A, B, C], End::Goto(1)), (&[D], End::Stop)],
     ),
     // gotos that lead further up go one after another
     (

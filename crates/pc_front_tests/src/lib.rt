@@ -17,4 +17,6 @@ mod short_lists;
 #[cfg(test)]
 mod sources;
 #[cfg(test)]
+mod unit;
+#[cfg(test)]
 mod word;

@@ -63,6 +63,7 @@ pub(crate) fn mark_statement(
         Stmt::Scalar { .. } | Stmt::Array { .. } | Stmt::Assign { .. } => Ok(()),
         Stmt::Print { .. } | Stmt::Eval { .. } | Stmt::Return { .. } => Ok(()),
         Stmt::Break { .. } | Stmt::Continue { .. } | Stmt::Empty => Ok(()),
+        Stmt::Call { .. } => Ok(()),
     }
 }
 

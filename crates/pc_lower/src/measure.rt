@@ -27,6 +27,7 @@ pub(crate) fn loop_count(statement: &Stmt) -> u16
         Stmt::Scalar { .. } | Stmt::Array { .. } | Stmt::Assign { .. } => 0,
         Stmt::Print { .. } | Stmt::Eval { .. } | Stmt::Return { .. } => 0,
         Stmt::Break { .. } | Stmt::Continue { .. } | Stmt::Empty => 0,
+        Stmt::Call { .. } => 0,
     }
 }
 

@@ -266,7 +266,8 @@ pub(crate) fn lower_statement(draft: &mut Draft, statement: &Stmt, spot: Spot) -
         Stmt::Return { value, .. } => lower_value(draft, value, spot.site(spot.return_to)),
         Stmt::Break { .. } => Laid::empty(spot.end, spot.break_to),
         Stmt::Continue { .. } => Laid::empty(spot.end, spot.continue_to),
-        Stmt::Array { .. } | Stmt::Empty => Laid::empty(spot.end, spot.next),
+        Stmt::Array { .. } => Laid::empty(spot.end, spot.next),
+        Stmt::Empty | Stmt::Call { .. } => Laid::empty(spot.end, spot.next),
         Stmt::While { test, body, .. } => lower_while(draft, test, body, spot),
         Stmt::Do { body, test, .. } => lower_do(draft, test, body, spot),
         Stmt::For {

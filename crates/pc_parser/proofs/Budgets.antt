@@ -3,7 +3,9 @@ use Rattle.std.proofs.Common.{◌≡◌, refl, sym, ap, ◌∙◌, subst, ℕ, s
 use Rattle.std.specs.Prelude.{Some}
 use Rattle.pc_lexer.specs.declared.token.Token.{Token}
 use Rattle.pc_syntax.specs.Source.{SourceExpression}
-use Rattle.pc_syntax.proofs.ErasureLaws.{statement_forms, expression_forms}
+use Rattle.pc_syntax.proofs.ErasureLaws.{expression_forms}
+use Rattle.pc_syntax.proofs.UnitLaws.{unit_forms}
+use Rattle.pc_parser.specs.declared.calls.Calls.{Calls}
 use Rattle.pc_parser.specs.declared.operator.Operator.{Operator}
 use Rattle.pc_parser.specs.declared.outcome.Failure.{Failure}
 use Rattle.pc_parser.specs.declared.outcome.Failure.TheVariants as failures
@@ -23,12 +25,12 @@ below-expression tokens (suc budget) level from some =
     let same : budget ≡ suc budget - 1 = omega arith in ap (λ n. expression_at tokens n level from) same
 
 -- the parser of statements below a budget
-pub below-statement : (tokens : List Token) (budget from : ℕ) → 1 ≤ budget →
-    statement_below tokens budget from ≡ statement_at tokens (budget - 1) from
+pub below-statement : (tokens : List Token) (calls : Calls) (budget from : ℕ) → 1 ≤ budget →
+    statement_below tokens calls budget from ≡ statement_at tokens calls (budget - 1) from
 unfolding statement_below
-below-statement tokens zero from some = absurd (omega arith)
-below-statement tokens (suc budget) from some =
-    let same : budget ≡ suc budget - 1 = omega arith in ap (λ n. statement_at tokens n from) same
+below-statement tokens calls zero from some = absurd (omega arith)
+below-statement tokens calls (suc budget) from some =
+    let same : budget ≡ suc budget - 1 = omega arith in ap (λ n. statement_at tokens calls n from) same
 
 -- the parser of expressions in terms of that below its budget
 pub expression_at-part : (tokens : List Token) (budget level from : ℕ) → expression_at tokens budget level from ≡ part tokens (below tokens budget) budget level from
@@ -37,10 +39,10 @@ expression_at-part tokens zero level from = refl
 expression_at-part tokens (suc budget) level from = refl
 
 -- the parser of statements in terms of that below its budget
-pub statement_at-from : (tokens : List Token) (budget from : ℕ) → statement_at tokens budget from ≡ statement_from tokens (statement_below tokens budget) budget from
+pub statement_at-from : (tokens : List Token) (calls : Calls) (budget from : ℕ) → statement_at tokens calls budget from ≡ statement_from tokens calls (statement_below tokens calls budget) budget from
 unfolding statement_at statement_below
-statement_at-from tokens zero from = refl
-statement_at-from tokens (suc budget) from = refl
+statement_at-from tokens calls zero from = refl
+statement_at-from tokens calls (suc budget) from = refl
 
 -- above the level of the whole expression stands an operand
 pub part-operand : (tokens : List Token) (inner : Inner) (budget level from : ℕ) → 1 ≤ level → part tokens inner budget level from ≡ operand tokens inner budget level from
@@ -89,4 +91,4 @@ module _ (tokens : List Token) (inner : Inner) (budget level : ℕ) where
 pub ruleset budgets = (below-expression, below-statement, expression_at-part, statement_at-from, part-operand, fails-after, climb-ends, climb-turned, climb-spent)
 
 -- what trees in memory are, and those that are made
-pub ruleset tree_forms = (statement_forms, expression_forms)
+pub ruleset tree_forms = (unit_forms, expression_forms)

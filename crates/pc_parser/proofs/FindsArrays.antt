@@ -3,18 +3,19 @@ use Rattle.std.proofs.Common.{◌≡◌, ap, ◌∙◌, ℕ, zero, suc, ◌+◌,
 use Rattle.pc_lexer.specs.declared.token.Token.{Token}
 use Rattle.pc_lexer.specs.declared.mark.Mark.TheVariants as marks
 use Rattle.pc_syntax.specs.declared.constant.Const.{Const}
-use Rattle.pc_syntax.specs.Source.{SourceStatement}
+use Rattle.pc_syntax.specs.Unit.{UnitStatement}
+use Rattle.pc_parser.specs.declared.calls.Calls.{Calls}
 use Rattle.pc_parser.specs.declared.storage.Storage.TheVariants.{Static}
 use Rattle.pc_parser.specs.Places.{kind_at}
-use Rattle.pc_parser.specs.models.Tests.{is_mark}
+use Rattle.pc_parser.specs.models.Tests.{is_mark, symbol_of}
 use Rattle.pc_parser.specs.Statements.{ReadsConstant, ReadsConstants, ReadsDeclarator}
 use Rattle.pc_parser.specs.models.Outcome.{Parsed}
-use Rattle.pc_parser.specs.models.StatementParser.{symbol_of, length_of, number_of, plain, negated, constant_at, constants_at, valued, sized, fixed_on}
+use Rattle.pc_parser.specs.models.StatementParser.{length_of, number_of, plain, negated, constant_at, constants_at, valued, sized, fixed_on}
 use Rattle.pc_parser.proofs.Tokens.{is_mark-of}
 use Rattle.pc_parser.proofs.Finds.{expect-yes, after-parsed, cond-yes, cond-no}
 use Rattle.pc_parser.proofs.Onward.{inside, constant-onward}
 
-module _ (tokens : List Token) where
+module _ (tokens : List Token) (calls : Calls) where
   finds-constant : (p : ℕ) (t : Const) (q : ℕ) → ReadsConstant tokens p t q → constant_at tokens p ≡ Parsed t 1 q
   unfolding constant_at plain negated number_of
   finds-constant p t q (ReadsConstant.number is) = cond-no _ _ _ (ap (is_mark marks.Minus) is) ∙ ap (λ k. plain tokens p (number_of k)) is
@@ -53,7 +54,7 @@ module _ (tokens : List Token) where
       after-parsed (constants_at tokens n (r + 1)) _ rest 1 q (finds-constants n (r + 1) rest q e (omega arith))
 
   -- a declarator of a static declaration, which no `=` follows
-  pub finds-fixed : (p : ℕ) (s : SourceStatement) (h q : ℕ) → ReadsDeclarator tokens Static p s h q → is_mark marks.Assign (kind_at tokens q) ≡ false →
+  pub finds-fixed : (p : ℕ) (s : UnitStatement) (h q : ℕ) → ReadsDeclarator tokens calls Static p s h q → is_mark marks.Assign (kind_at tokens q) ≡ false →
       fixed_on tokens (symbol_of (kind_at tokens p)) p ≡ Parsed s h q
   unfolding fixed_on sized valued symbol_of length_of
   finds-fixed p s h q (ReadsDeclarator.array {symbol = symbol} is open' number close') ends =

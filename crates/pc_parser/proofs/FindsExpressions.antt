@@ -15,7 +15,7 @@ use Rattle.pc_parser.specs.models.Tests.{is_mark}
 use Rattle.pc_parser.specs.Operators.{operator_of, prefix_of, infixed, prefixed}
 use Rattle.pc_parser.specs.Expressions.{ReadsExpression, ReadsLevel, ReadsUnary, ReadsPrimary}
 use Rattle.pc_parser.specs.models.Outcome.{Parsed, after}
-use Rattle.pc_parser.specs.models.ExpressionParser.{operator_from, sign_of, target_tree, target_height, target_named, literal_at, name_at, grouped, input, primary_on, signed, unary_on}
+use Rattle.pc_parser.specs.models.ExpressionParser.{operator_from, sign_of, lvalue_tree, lvalue_height, lvalue_named, literal_at, name_at, grouped, input, primary_on, signed, unary_on}
 use Rattle.pc_parser.specs.models.ExpressionParser.{unary_at, infixed_at, climb, choice, operand, part, expression_at, below}
 use Rattle.pc_parser.proofs.Budgets.{below-expression, expression_at-part, part-operand}
 use Rattle.pc_parser.proofs.Tokens.{is_mark-of, is_mark-true}
@@ -32,27 +32,28 @@ pub record FollowsWhole (kind : Option TokenKind) : Type 0 where
   pub bracket : is_mark marks.LeftBracket kind ≡ false
   pub operator : operator_from 1 kind ≡ None
   pub question : is_mark marks.Question kind ≡ false
+  pub paren : is_mark marks.LeftParen kind ≡ false
 
 -- the marks that stand after an expression
 pub follows-paren : (kind : Option TokenKind) → kind ≡ Some (kinds.Mark marks.RightParen) → FollowsWhole kind
 unfolding operator_from operator_of
-follows-paren kind is = subst FollowsWhole (sym is) record { bracket = refl; operator = refl; question = refl }
+follows-paren kind is = subst FollowsWhole (sym is) record { bracket = refl; operator = refl; question = refl; paren = refl }
 
 pub follows-bracket : (kind : Option TokenKind) → kind ≡ Some (kinds.Mark marks.RightBracket) → FollowsWhole kind
 unfolding operator_from operator_of
-follows-bracket kind is = subst FollowsWhole (sym is) record { bracket = refl; operator = refl; question = refl }
+follows-bracket kind is = subst FollowsWhole (sym is) record { bracket = refl; operator = refl; question = refl; paren = refl }
 
 pub follows-semicolon : (kind : Option TokenKind) → kind ≡ Some (kinds.Mark marks.Semicolon) → FollowsWhole kind
 unfolding operator_from operator_of
-follows-semicolon kind is = subst FollowsWhole (sym is) record { bracket = refl; operator = refl; question = refl }
+follows-semicolon kind is = subst FollowsWhole (sym is) record { bracket = refl; operator = refl; question = refl; paren = refl }
 
 pub follows-comma : (kind : Option TokenKind) → kind ≡ Some (kinds.Mark marks.Comma) → FollowsWhole kind
 unfolding operator_from operator_of
-follows-comma kind is = subst FollowsWhole (sym is) record { bracket = refl; operator = refl; question = refl }
+follows-comma kind is = subst FollowsWhole (sym is) record { bracket = refl; operator = refl; question = refl; paren = refl }
 
 pub follows-colon : (kind : Option TokenKind) → kind ≡ Some (kinds.Mark marks.Colon) → FollowsWhole kind
 unfolding operator_from operator_of
-follows-colon kind is = subst FollowsWhole (sym is) record { bracket = refl; operator = refl; question = refl }
+follows-colon kind is = subst FollowsWhole (sym is) record { bracket = refl; operator = refl; question = refl; paren = refl }
 
 -- `?` stands after the operands of every level
 pub question-bracket : (kind : Option TokenKind) → kind ≡ Some (kinds.Mark marks.Question) → is_mark marks.LeftBracket kind ≡ false
@@ -116,20 +117,20 @@ module _ (tokens : List Token) where
 
     named_as : (p symbol : ℕ) → kind_at tokens p ≡ Some (kinds.Name symbol) → 1 ≤ b →
         unary_at tokens (below tokens b) b p
-        ≡ after (target_named tokens (below tokens b) b symbol p) (λ target height to. Parsed (target_tree target) (target_height target height) to)
+        ≡ after (lvalue_named tokens (below tokens b) b symbol p) (λ lvalue height to. Parsed (lvalue_tree lvalue) (lvalue_height lvalue height) to)
     unfolding primary_on name_at sign_of
     named_as p symbol is low = by_token p (Some (kinds.Name symbol)) is refl ∙ allowed-yes 1 b p _ low
 
-    -- a target that is a name, or an element
+    -- an lvalue that is a name, or an element
     pub finds-lone : (p symbol : ℕ) → is_mark marks.LeftBracket (kind_at tokens (p + 1)) ≡ false →
-        target_named tokens (below tokens b) b symbol p ≡ Parsed record { symbol = symbol; line = line_at tokens p; index = None; bracket = line_at tokens p } 0 (p + 1)
-    unfolding target_named
+        lvalue_named tokens (below tokens b) b symbol p ≡ Parsed record { symbol = symbol; line = line_at tokens p; index = None; bracket = line_at tokens p } 0 (p + 1)
+    unfolding lvalue_named
     finds-lone p symbol no' = cond-no _ _ _ no'
 
     pub finds-indexed : (p symbol : ℕ) (index : SourceExpression) (h q : ℕ) → kind_at tokens (p + 1) ≡ Some (kinds.Mark marks.LeftBracket) →
         expression_at tokens (b - 1) 0 (p + 2) ≡ Parsed index h q → kind_at tokens q ≡ Some (kinds.Mark marks.RightBracket) → 2 ≤ b →
-        target_named tokens (below tokens b) b symbol p ≡ Parsed record { symbol = symbol; line = line_at tokens p; index = Some index; bracket = line_at tokens (p + 1) } (h + 1) (q + 1)
-    unfolding target_named
+        lvalue_named tokens (below tokens b) b symbol p ≡ Parsed record { symbol = symbol; line = line_at tokens p; index = Some index; bracket = line_at tokens (p + 1) } (h + 1) (q + 1)
+    unfolding lvalue_named
     finds-indexed p symbol index h q open' is close' low =
         cond-yes _ _ _ (is_mark-of marks.LeftBracket (kind_at tokens (p + 1)) open') ∙ allowed-yes 2 b (p + 1) _ low ∙
         after-parsed (below tokens b 0 (p + 2)) _ index h q (inner-whole b (p + 2) index h q (omega arith) is) ∙ expect-yes tokens marks.RightBracket q _ close'
@@ -248,10 +249,10 @@ module _ (tokens : List Token) where
         unary_at tokens (below tokens b) b p ≡ Parsed t h q
     finds-primary b p t h q (ReadsPrimary.number {value = value} is) bracket fits = finds-number b p value is fits
     finds-primary b p t h q (ReadsPrimary.name {symbol = symbol} is) bracket fits =
-        named_as b p symbol is fits ∙ after-parsed (target_named tokens (below tokens b) b symbol p) _ _ 0 (p + 1) (finds-lone b p symbol bracket)
+        named_as b p symbol is fits ∙ after-parsed (lvalue_named tokens (below tokens b) b symbol p) _ _ 0 (p + 1) (finds-lone b p symbol bracket)
     finds-primary b p t h q (ReadsPrimary.element {symbol = symbol} {height = height} {q = r} {index = index} is open' d close') bracket fits =
         let some = expression-positive tokens (p + 2) index height r d in
-        named_as b p symbol is (omega arith) ∙ after-parsed (target_named tokens (below tokens b) b symbol p) _ _ (height + 1) (r + 1)
+        named_as b p symbol is (omega arith) ∙ after-parsed (lvalue_named tokens (below tokens b) b symbol p) _ _ (height + 1) (r + 1)
         (finds-indexed b p symbol index height r open' (finds-expression (b - 1) (p + 2) index height r d (follows-bracket (kind_at tokens r) close') (omega arith)) close' (omega arith))
     finds-primary b p t h q (ReadsPrimary.input is open' close') bracket fits = finds-input b p is open' close' fits
     finds-primary b p t h q (ReadsPrimary.grouped {height = height} {q = r} {tree = tree} is d close') bracket fits =

@@ -6,23 +6,18 @@ use Rattle.pc_lexer.specs.declared.token.TokenKind.{TokenKind}
 use Rattle.pc_lexer.specs.declared.token.TokenKind.TheVariants as kinds
 use Rattle.pc_lexer.specs.declared.mark.Mark.TheVariants as marks
 use Rattle.pc_syntax.specs.declared.constant.Const.{Const}
-use Rattle.pc_syntax.specs.Source.{SourceStatement}
+use Rattle.pc_syntax.specs.Unit.{UnitStatement}
+use Rattle.pc_parser.specs.declared.calls.Calls.{Calls}
+use Rattle.pc_parser.specs.models.Tests.{symbol_of}
 use Rattle.pc_parser.specs.declared.storage.Storage.TheVariants.{Static}
 use Rattle.pc_parser.specs.Places.{kind_at}
 use Rattle.pc_parser.specs.Statements.{ReadsConstant, ReadsConstants, ReadsDeclarator}
-use Rattle.pc_parser.specs.models.StatementParser.{symbol_of, length_of, number_of, natural, plain, negated, constant_at, constants_at, valued, sized, fixed_on}
+use Rattle.pc_parser.specs.models.StatementParser.{length_of, number_of, natural, plain, negated, constant_at, constants_at, valued, sized, fixed_on}
+use Rattle.pc_parser.proofs.Names.{symbol-is}
 use Rattle.pc_parser.proofs.Onward.{inside, constants-onward}
 use Rattle.pc_parser.proofs.Holds.{Good, after-good, expect-good, on_mark-good}
 
--- what is a name, a number or a length
-pub symbol-is : (kind : Option TokenKind) (symbol : ℕ) → symbol_of kind ≡ Some symbol → kind ≡ Some (kinds.Name symbol)
-unfolding symbol_of
-symbol-is (Some (kinds.Name found)) symbol is = let same : found ≡ symbol = cc in ap (λ s. Some (kinds.Name s)) same
-symbol-is (Some (kinds.Number value)) symbol is = cc
-symbol-is (Some (kinds.Key key)) symbol is = cc
-symbol-is (Some (kinds.Mark mark)) symbol is = cc
-symbol-is None symbol is = cc
-
+-- what is a number or a length
 number-is : (kind : Option TokenKind) (value : ℤ) → number_of kind ≡ Some value → kind ≡ Some (kinds.Number value)
 unfolding number_of
 number-is (Some (kinds.Number found)) value is = let same : found ≡ value = cc in ap (λ v. Some (kinds.Number v)) same
@@ -43,7 +38,7 @@ length-is (Some (kinds.Key key)) size is = cc
 length-is (Some (kinds.Mark mark)) size is = cc
 length-is None size is = cc
 
-module _ (tokens : List Token) where
+module _ (tokens : List Token) (calls : Calls) where
   record IsConstant (p : ℕ) (t : Const) (h q : ℕ) : Type 0 where
     reads : ReadsConstant tokens p t q
     within : q ≤ length tokens
@@ -54,8 +49,8 @@ module _ (tokens : List Token) where
     within : q ≤ length tokens
 
   -- a declarator of a static declaration
-  pub record IsFixed (p : ℕ) (s : SourceStatement) (h q : ℕ) : Type 0 where
-    pub reads : ReadsDeclarator tokens Static p s h q
+  pub record IsFixed (p : ℕ) (s : UnitStatement) (h q : ℕ) : Type 0 where
+    pub reads : ReadsDeclarator tokens calls Static p s h q
     pub one : h ≡ 1
     pub within : q ≤ length tokens
     pub onward : p ≤ q

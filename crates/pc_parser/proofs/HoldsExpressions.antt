@@ -14,9 +14,9 @@ use Rattle.pc_parser.specs.Places.{kind_at, line_at}
 use Rattle.pc_parser.specs.models.Tests.{mark_is, key_is}
 use Rattle.pc_parser.specs.Operators.{prefix_of, infixed}
 use Rattle.pc_parser.specs.Expressions.{ReadsExpression, ReadsLevel, ReadsUnary, ReadsPrimary}
-use Rattle.pc_parser.specs.Statements.{Target, ReadsTarget}
+use Rattle.pc_parser.specs.Statements.{Lvalue, ReadsLvalue}
 use Rattle.pc_parser.specs.models.Outcome.{ParseOutcome, Parsed, Unreadable, TooHigh}
-use Rattle.pc_parser.specs.models.ExpressionParser.{Inner, operator_from, sign_of, target_tree, target_height, target_named, literal_at, name_at, grouped, input, primary_on, signed, unary_on}
+use Rattle.pc_parser.specs.models.ExpressionParser.{Inner, operator_from, sign_of, lvalue_tree, lvalue_height, lvalue_named, literal_at, name_at, grouped, input, primary_on, signed, unary_on}
 use Rattle.pc_parser.specs.models.ExpressionParser.{unary_at, infixed_at, last_turn, turn, climb, choice, operand, part, expression_at, below}
 use Rattle.pc_parser.proofs.Tokens.{mark_is-true, key_is-true}
 use Rattle.pc_parser.proofs.Onward.{inside}
@@ -36,8 +36,8 @@ module _ (tokens : List Token) where
     pub ends : 1 ≤ level → operator_from level (kind_at tokens q) ≡ None
     pub size : Sized b p h q
 
-  pub record IsTarget (b p : ℕ) (t : Target) (h q : ℕ) : Type 0 where
-    pub reads : ReadsTarget tokens p t h q
+  pub record IsLvalue (b p : ℕ) (t : Lvalue) (h q : ℕ) : Type 0 where
+    pub reads : ReadsLvalue tokens p t h q
     pub size : Sized b p h q
 
   record IsPrimary (b p : ℕ) (t : SourceExpression) (h q : ℕ) : Type 0 where
@@ -52,14 +52,14 @@ module _ (tokens : List Token) where
   abbrev pub InnerHolds : ℕ → Inner → Type 0
   InnerHolds b inner = (level from : ℕ) → level ≤ 11 → from ≤ length tokens → Good (length tokens) (b - 1 + from) (Sound (b - 1) level from) (inner level from)
 
-  -- a target as a primary expression
-  pub target-primary : (p : ℕ) (t : Target) (h q : ℕ) → ReadsTarget tokens p t h q → ReadsPrimary tokens p (target_tree t) (target_height t h) q
-  target-primary p t h q (ReadsTarget.name is) = ReadsPrimary.name is
-  target-primary p t h q (ReadsTarget.element is open' d close') = ReadsPrimary.element is open' d close'
+  -- an lvalue as a primary expression
+  pub lvalue-primary : (p : ℕ) (t : Lvalue) (h q : ℕ) → ReadsLvalue tokens p t h q → ReadsPrimary tokens p (lvalue_tree t) (lvalue_height t h) q
+  lvalue-primary p t h q (ReadsLvalue.name is) = ReadsPrimary.name is
+  lvalue-primary p t h q (ReadsLvalue.element is open' d close') = ReadsPrimary.element is open' d close'
 
-  pub target-height-low : (b p : ℕ) (t : Target) (h q : ℕ) → ReadsTarget tokens p t h q → 1 ≤ b → Sized b p h q → Sized b p (target_height t h) q
-  target-height-low b p t h q (ReadsTarget.name is) some size = let w = size.within in record { low = omega arith; long = omega arith; within = omega arith }
-  target-height-low b p t h q (ReadsTarget.element is open' d close') some size = size
+  pub lvalue-height-low : (b p : ℕ) (t : Lvalue) (h q : ℕ) → ReadsLvalue tokens p t h q → 1 ≤ b → Sized b p h q → Sized b p (lvalue_height t h) q
+  lvalue-height-low b p t h q (ReadsLvalue.name is) some size = let w = size.within in record { low = omega arith; long = omega arith; within = omega arith }
+  lvalue-height-low b p t h q (ReadsLvalue.element is open' d close') some size = size
 
   -- no binary operator is as tight as a unary one
   level-eleven : (level p : ℕ) (t : SourceExpression) (h q : ℕ) → ReadsLevel tokens level p t h q → 11 ≤ level → ReadsUnary tokens p t h q
@@ -71,18 +71,18 @@ module _ (tokens : List Token) where
   level-unary p t h q d = level-eleven 11 p t h q d (omega arith)
 
   module _ (inner : Inner) (b : ℕ) (holds : InnerHolds b inner) where
-    pub target_named-holds : (symbol p : ℕ) → kind_at tokens p ≡ Some (kinds.Name symbol) → Good (length tokens) (b + p) (IsTarget b p) (target_named tokens inner b symbol p)
-    unfolding target_named
-    target_named-holds symbol p is =
+    pub lvalue_named-holds : (symbol p : ℕ) → kind_at tokens p ≡ Some (kinds.Name symbol) → Good (length tokens) (b + p) (IsLvalue b p) (lvalue_named tokens inner b symbol p)
+    unfolding lvalue_named
+    lvalue_named-holds symbol p is =
         let within = inside tokens p _ is in
-        on_mark-good tokens (b + p) marks.LeftBracket (p + 1) (IsTarget b p) _ _
-        (λ open' below. allowed-good (length tokens) (b + p) 2 b (p + 1) (IsTarget b p) _ (λ high. omega arith) (omega arith) (λ low.
-        after-good (length tokens) (b + p) (b - 1 + (p + 2)) (Sound (b - 1) 0 (p + 2)) (IsTarget b p) (inner 0 (p + 2)) _ (omega arith)
+        on_mark-good tokens (b + p) marks.LeftBracket (p + 1) (IsLvalue b p) _ _
+        (λ open' below. allowed-good (length tokens) (b + p) 2 b (p + 1) (IsLvalue b p) _ (λ high. omega arith) (omega arith) (λ low.
+        after-good (length tokens) (b + p) (b - 1 + (p + 2)) (Sound (b - 1) 0 (p + 2)) (IsLvalue b p) (inner 0 (p + 2)) _ (omega arith)
         (holds 0 (p + 2) (omega arith) (omega arith)) (λ index h q sound.
         let size = sound.size in let a = size.low in let l = size.long in let w = size.within in
-        expect-good tokens (b + p) marks.RightBracket q (IsTarget b p) _ w (λ close' further.
-        record { reads = ReadsTarget.element is open' (sound.whole refl) close'; size = record { low = omega arith; long = omega arith; within = omega arith } }))))
-        (λ no'. record { reads = ReadsTarget.name is; size = record { low = omega arith; long = omega arith; within = omega arith } })
+        expect-good tokens (b + p) marks.RightBracket q (IsLvalue b p) _ w (λ close' further.
+        record { reads = ReadsLvalue.element is open' (sound.whole refl) close'; size = record { low = omega arith; long = omega arith; within = omega arith } }))))
+        (λ no'. record { reads = ReadsLvalue.name is; size = record { low = omega arith; long = omega arith; within = omega arith } })
 
     grouped-holds : (p : ℕ) → kind_at tokens p ≡ Some (kinds.Mark marks.LeftParen) → Good (length tokens) (b + p) (IsPrimary b p) (grouped tokens inner b p)
     unfolding grouped
@@ -115,8 +115,8 @@ module _ (tokens : List Token) where
     name_at-holds symbol p is =
         let within = inside tokens p _ is in
         allowed-good (length tokens) (b + p) 1 b p (IsPrimary b p) _ (λ high. omega arith) (omega arith) (λ low.
-        after-good (length tokens) (b + p) (b + p) (IsTarget b p) (IsPrimary b p) (target_named tokens inner b symbol p) _ (omega arith) (target_named-holds symbol p is) (λ t h q sound.
-        record { reads = target-primary p t h q sound.reads; size = target-height-low b p t h q sound.reads low sound.size }))
+        after-good (length tokens) (b + p) (b + p) (IsLvalue b p) (IsPrimary b p) (lvalue_named tokens inner b symbol p) _ (omega arith) (lvalue_named-holds symbol p is) (λ t h q sound.
+        record { reads = lvalue-primary p t h q sound.reads; size = lvalue-height-low b p t h q sound.reads low sound.size }))
 
     primary_on-holds : (kind : Option TokenKind) (p : ℕ) → kind_at tokens p ≡ kind → p ≤ length tokens → Good (length tokens) (b + p) (IsPrimary b p) (primary_on tokens inner b kind p)
     unfolding primary_on

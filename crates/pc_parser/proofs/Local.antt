@@ -2,6 +2,7 @@
 -- budget gives the same answer.
 use Rattle.std.proofs.Common.{◌≡◌, refl, sym, ap, ◌∙◌, ℕ, ◌+◌, ◌-◌, ◌≤◌, Bool, true, false, List, arith, cond}
 use Rattle.std.specs.Prelude.{Option, nat_le}
+use Rattle.std.proofs.lemmas.Bool.{leb-true}
 use Rattle.std.proofs.lemmas.Bool.Decides.{nat_tests}
 use Rattle.pc_lexer.specs.declared.token.Token.{Token}
 use Rattle.pc_lexer.specs.declared.token.TokenKind.{TokenKind}
@@ -92,14 +93,19 @@ module _ (k : ℕ) (E : Type 0) where
   after-local by more from (TooHigh at) y f g first next = record { goes = first.goes; carries = λ s e. ap (λ o. after o g) (first.carries s e) }
 
   -- what is allowed by the one budget and by the other
-  pub allowed-local : {A : Type 0} (least b c at by from : ℕ) (x y : ParseOutcome A) → Budgets E b c → from ≤ at → Local k E by from x y →
+  pub allowed_low-local : {A : Type 0} (least b c at by from : ℕ) (x y : ParseOutcome A) → Budgets E b c → from ≤ at → (least ≤ b → Local k E by from x y) →
       Local k E by from (allowed least b at x) (allowed least c at y)
-  allowed-local least b c at by from x y budgets inside rest = chosen (nat_le least b) refl
+  allowed_low-local least b c at by from x y budgets inside each = chosen (nat_le least b) refl
     where
       chosen : (t : Bool) → nat_le least b ≡ t → Local k E by from (cond t x (TooHigh at)) (allowed least c at y)
       chosen true is = let low = budgets.low in let also : nat_le least c ≡ true = grind (arith, nat_tests) in
+          let rest = each (leb-true least b is) in
           record { goes = rest.goes; carries = λ s e. ap (λ t. cond t y (TooHigh at)) also ∙ rest.carries s e }
       chosen false is = record { goes = inside; carries = λ s e. ap (λ n. cond (nat_le least n) y (TooHigh at)) (sym (budgets.same (e refl))) ∙ ap (λ t. cond t y (TooHigh at)) is }
+
+  pub allowed-local : {A : Type 0} (least b c at by from : ℕ) (x y : ParseOutcome A) → Budgets E b c → from ≤ at → Local k E by from x y →
+      Local k E by from (allowed least b at x) (allowed least c at y)
+  allowed-local least b c at by from x y budgets inside rest = allowed_low-local least b c at by from x y budgets inside (λ low. rest)
 
   -- two lists of tokens, of which the one begins with the other's up to k
   module _ (ts ws : List Token) (kinds : (i : ℕ) → i ≤ k → kind_at ws i ≡ kind_at ts i) (lines : (i : ℕ) → i ≤ k → line_at ws i ≡ line_at ts i) where
@@ -108,6 +114,14 @@ module _ (k : ℕ) (E : Type 0) where
         Local k E by from (F (kind_at ts from)) (G (kind_at ws from))
     look by from F G each =
         let here = each (kind_at ts from) in
+        let onward = Goes-stop by from (F (kind_at ts from)) here.goes in
+        record { goes = here.goes; carries = λ s e. ap G (kinds from (omega arith)) ∙ here.carries s e }
+
+    -- the same, where it is known which token it is
+    pub look_is : {A : Type 0} (by from : ℕ) (F G : Option TokenKind → ParseOutcome A) → ((kind : Option TokenKind) → kind_at ts from ≡ kind → Local k E by from (F kind) (G kind)) →
+        Local k E by from (F (kind_at ts from)) (G (kind_at ws from))
+    look_is by from F G each =
+        let here = each (kind_at ts from) refl in
         let onward = Goes-stop by from (F (kind_at ts from)) here.goes in
         record { goes = here.goes; carries = λ s e. ap G (kinds from (omega arith)) ∙ here.carries s e }
 

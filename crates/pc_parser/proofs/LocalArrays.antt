@@ -7,7 +7,7 @@ use Rattle.pc_lexer.specs.declared.token.TokenKind.{TokenKind}
 use Rattle.pc_lexer.specs.declared.mark.Mark.{Mark}
 use Rattle.pc_lexer.specs.declared.mark.Mark.TheVariants as marks
 use Rattle.pc_syntax.specs.declared.constant.Const.{Const}
-use Rattle.pc_syntax.specs.Source.{SourceStatement, ArrayDeclaration}
+use Rattle.pc_syntax.specs.Unit.{UnitStatement, Array}
 use Rattle.pc_parser.specs.Places.{kind_at, line_at}
 use Rattle.pc_parser.specs.models.Tests.{is_mark}
 use Rattle.pc_parser.specs.models.Outcome.{ParseOutcome, Parsed, Unreadable, after, expect}
@@ -102,8 +102,8 @@ module _ (k : ℕ) (E : Type 0) (ts ws : List Token) (kinds_agree : (i : ℕ) �
 
   -- ---- declarators
 
-  abbrev array_with : List Token → ℕ → ℕ → Option ℕ → (line at : ℕ) → ParseOutcome SourceStatement
-  array_with tokens symbol from (Some length) line at = expect tokens marks.RightBracket (from + 3) (Parsed (ArrayDeclaration symbol line at length []) 1 (from + 4))
+  abbrev array_with : List Token → ℕ → ℕ → Option ℕ → (line at : ℕ) → ParseOutcome UnitStatement
+  array_with tokens symbol from (Some length) line at = expect tokens marks.RightBracket (from + 3) (Parsed (Array symbol line at length []) 1 (from + 4))
   array_with tokens symbol from None line at = Unreadable (from + 2)
 
   pub array-local : (symbol from : ℕ) (size : Option ℕ) → Local k E 0 (from + 2) (array ts symbol from size) (array ws symbol from size)
@@ -118,9 +118,9 @@ module _ (k : ℕ) (E : Type 0) (ts ws : List Token) (kinds_agree : (i : ℕ) �
   -- the list of tokens that is gone on with is long enough
 
   module _ (few : k < length ts + 1) (fewer : k < length ws + 1) where
-    abbrev valued_with : List Token → (symbol from size line at : ℕ) → ParseOutcome SourceStatement
+    abbrev valued_with : List Token → (symbol from size line at : ℕ) → ParseOutcome UnitStatement
     valued_with tokens symbol from size line at = expect tokens marks.LeftBrace (from + 5) (after (constants_at tokens (length tokens + 1) (from + 6)) (λ values height to.
-        Parsed (ArrayDeclaration symbol line at size values) 1 to))
+        Parsed (Array symbol line at size values) 1 to))
 
     valued-local : (symbol from size : ℕ) → Local k E 0 (from + 5) (valued ts symbol from size) (valued ws symbol from size)
     unfolding valued
@@ -132,8 +132,8 @@ module _ (k : ℕ) (E : Type 0) (ts ws : List Token) (kinds_agree : (i : ℕ) �
         (up 1 (from + 6) 0 (from + 5 + 1) (omega arith) (omega arith)
         (next _ _ (constants_at-local (length ts + 1) (length ws + 1) (from + 6) (omega arith) (omega arith)) (λ values height to onward. done 0 to (omega arith)))))))
 
-    abbrev bare_with : (symbol from size line at : ℕ) → ParseOutcome SourceStatement
-    bare_with symbol from size line at = Parsed (ArrayDeclaration symbol line at size []) 1 (from + 4)
+    abbrev bare_with : (symbol from size line at : ℕ) → ParseOutcome UnitStatement
+    bare_with symbol from size line at = Parsed (Array symbol line at size []) 1 (from + 4)
 
     sized-local : (symbol from : ℕ) (size : Option ℕ) → Local k E 0 (from + 2) (sized ts symbol from size) (sized ws symbol from size)
     unfolding sized

@@ -12,15 +12,15 @@ use Rattle.pc_parser.specs.declared.operator.Operator.{Operator}
 use Rattle.pc_parser.specs.Places.{kind_at, line_at}
 use Rattle.pc_parser.specs.models.Tests.{is_mark, mark_is, key_is}
 use Rattle.pc_parser.specs.Operators.{infixed}
-use Rattle.pc_parser.specs.Statements.{Target}
+use Rattle.pc_parser.specs.Statements.{Lvalue}
 use Rattle.pc_parser.specs.models.Outcome.{ParseOutcome, Parsed, Unreadable, TooHigh, after, allowed, expect}
-use Rattle.pc_parser.specs.models.ExpressionParser.{Inner, operator_from, sign_of, target_named, literal_at, name_at, grouped, input, primary_on, signed, unary_on, unary_at, infixed_at}
+use Rattle.pc_parser.specs.models.ExpressionParser.{Inner, operator_from, sign_of, lvalue_named, literal_at, name_at, grouped, input, primary_on, signed, unary_on, unary_at, infixed_at}
 use Rattle.pc_parser.specs.models.ExpressionParser.{last_turn, turn, climb, choice, operand, part, expression_at, below}
 use Rattle.pc_parser.proofs.Local.{Budgets, Local, parsed, unreadable, too_high, earlier, after-local, allowed-local, look, look_line, if-local, expect-local}
 
--- the target at a name, with the lines of the name and of the bracket
-abbrev target_with : List Token → Inner → (budget symbol from line bracket : ℕ) → ParseOutcome Target
-target_with tokens inner budget symbol from line bracket =
+-- the lvalue at a name, with the lines of the name and of the bracket
+abbrev lvalue_with : List Token → Inner → (budget symbol from line bracket : ℕ) → ParseOutcome Lvalue
+lvalue_with tokens inner budget symbol from line bracket =
     cond (is_mark marks.LeftBracket (kind_at tokens (from + 1)))
     (allowed 2 budget (from + 1) (after (inner 0 (from + 2)) (λ index height to.
     expect tokens marks.RightBracket to (Parsed record { symbol = symbol; line = line; index = Some index; bracket = bracket } (height + 1) (to + 1)))))
@@ -39,13 +39,13 @@ infixed_with tokens inner budget left height at found line = allowed (height + 1
 module _ (k : ℕ) (E : Type 0) (ts ws : List Token) (kinds_agree : (i : ℕ) → i ≤ k → kind_at ws i ≡ kind_at ts i)
     (lines_agree : (i : ℕ) → i ≤ k → line_at ws i ≡ line_at ts i) (inner other : Inner) (b c : ℕ) (budgets : Budgets E b c)
     (inners : (level from : ℕ) → Local k E 1 from (inner level from) (other level from)) where
-  pub target_named-local : (symbol from : ℕ) → Local k E 1 from (target_named ts inner b symbol from) (target_named ws other c symbol from)
-  unfolding target_named
-  target_named-local symbol from =
-      look_line k E ts ws kinds_agree lines_agree 1 from (λ line. target_with ts inner b symbol from line (line_at ts (from + 1)))
-      (λ line. target_with ws other c symbol from line (line_at ws (from + 1))) (λ line.
+  pub lvalue_named-local : (symbol from : ℕ) → Local k E 1 from (lvalue_named ts inner b symbol from) (lvalue_named ws other c symbol from)
+  unfolding lvalue_named
+  lvalue_named-local symbol from =
+      look_line k E ts ws kinds_agree lines_agree 1 from (λ line. lvalue_with ts inner b symbol from line (line_at ts (from + 1)))
+      (λ line. lvalue_with ws other c symbol from line (line_at ws (from + 1))) (λ line.
       earlier k E 0 (from + 1) 1 from _ _ (omega arith) (omega arith)
-      (look_line k E ts ws kinds_agree lines_agree 0 (from + 1) (λ bracket. target_with ts inner b symbol from line bracket) (λ bracket. target_with ws other c symbol from line bracket) (λ bracket.
+      (look_line k E ts ws kinds_agree lines_agree 0 (from + 1) (λ bracket. lvalue_with ts inner b symbol from line bracket) (λ bracket. lvalue_with ws other c symbol from line bracket) (λ bracket.
       if-local k E ts ws kinds_agree lines_agree (is_mark marks.LeftBracket) 0 (from + 1) _ _ _ _
       (allowed-local k E 2 b c (from + 1) 0 (from + 1) _ _ budgets (omega arith)
       (earlier k E 1 (from + 2) 0 (from + 1) _ _ (omega arith) (omega arith)
@@ -78,8 +78,8 @@ module _ (k : ℕ) (E : Type 0) (ts ws : List Token) (kinds_agree : (i : ℕ) �
   pub name_at-local : (symbol from : ℕ) → Local k E 1 from (name_at ts inner b symbol from) (name_at ws other c symbol from)
   unfolding name_at
   name_at-local symbol from = allowed-local k E 1 b c from 1 from _ _ budgets (omega arith)
-      (after-local k E 1 0 from (target_named ts inner b symbol from) (target_named ws other c symbol from) _ _ (target_named-local symbol from)
-      (λ target height to onward. parsed k E 0 to _ _ to (omega arith)))
+      (after-local k E 1 0 from (lvalue_named ts inner b symbol from) (lvalue_named ws other c symbol from) _ _ (lvalue_named-local symbol from)
+      (λ lvalue height to onward. parsed k E 0 to _ _ to (omega arith)))
 
   pub primary_on-local : (kind : Option TokenKind) (from : ℕ) → Local k E 1 from (primary_on ts inner b kind from) (primary_on ws other c kind from)
   unfolding primary_on

@@ -9,12 +9,15 @@ use Rattle.pc_lexer.specs.declared.mark.Mark.TheVariants as marks
 use Rattle.pc_lexer.specs.declared.keyword.Keyword.TheVariants as keys
 use Rattle.pc_syntax.specs.declared.operator.UnaryOp.{UnaryOp}
 use Rattle.pc_syntax.specs.declared.operator.BinaryOp.{BinaryOp}
-use Rattle.pc_syntax.specs.Source.{SourceExpression, SourceStatement}
+use Rattle.pc_syntax.specs.Source.{SourceExpression}
+use Rattle.pc_syntax.specs.Unit.{UnitStatement}
+use Rattle.pc_parser.specs.declared.calls.Calls.{Calls}
 use Rattle.pc_parser.specs.Places.{kind_at}
 use Rattle.pc_parser.specs.models.Tests.{is_mark, is_key}
 use Rattle.pc_parser.specs.Operators.{prefix_of, step_of}
 use Rattle.pc_parser.specs.Expressions.{ReadsExpression, ReadsLevel, ReadsUnary, ReadsPrimary}
-use Rattle.pc_parser.specs.Statements.{Target, ReadsTarget, ReadsSimple, ReadsStatement}
+use Rattle.pc_parser.specs.Calls.{ReadsCall}
+use Rattle.pc_parser.specs.Statements.{Lvalue, ReadsLvalue, ReadsSimple, ReadsStatement}
 use Rattle.pc_parser.specs.models.Outcome.{ParseOutcome}
 use Rattle.pc_parser.specs.models.StatementParser.{simple_on, marked, evaluation, ended_at, keyed, started, statement_on}
 
@@ -30,12 +33,13 @@ pub record BeginsSimple (kind : Option TokenKind) : Type 0 where
   pub begins : CanBegin kind
   pub semicolon_not : is_mark marks.Semicolon kind ≡ false
   pub paren_not : is_mark marks.RightParen kind ≡ false
-  pub ended : (tokens : List Token) (inner : (from : ℕ) → ParseOutcome SourceStatement) (budget from : ℕ) → statement_on tokens inner budget kind from ≡ ended_at tokens budget from
+  pub ended : (tokens : List Token) (calls : Calls) (inner : (from : ℕ) → ParseOutcome UnitStatement) (budget from : ℕ) →
+      statement_on tokens calls inner budget kind from ≡ ended_at tokens calls budget from
 
 -- a token that begins an expression: a name, or one that an evaluation begins with
 pub record BeginsExpression (kind : Option TokenKind) : Type 0 where
   pub simple : BeginsSimple kind
-  pub route : ((symbol : ℕ) × (kind ≡ Some (kinds.Name symbol))) ⊎ ((tokens : List Token) (budget from : ℕ) → simple_on tokens budget kind from ≡ evaluation tokens budget from)
+  pub route : ((symbol : ℕ) × (kind ≡ Some (kinds.Name symbol))) ⊎ ((tokens : List Token) (calls : Calls) (budget from : ℕ) → simple_on tokens calls budget kind from ≡ evaluation tokens budget from)
 
 begins-name : (symbol : ℕ) → BeginsExpression (Some (kinds.Name symbol))
 unfolding statement_on
@@ -46,7 +50,7 @@ begins-name symbol =
         semicolon_not = refl;
         paren_not = refl;
         ended =
-            λ tokens inner budget from. refl;
+            λ tokens calls inner budget from. refl;
       };
       route = inl (symbol, refl);
     }
@@ -60,25 +64,25 @@ begins-number value =
         semicolon_not = refl;
         paren_not = refl;
         ended =
-            λ tokens inner budget from. refl;
+            λ tokens calls inner budget from. refl;
       };
-      route = inr (λ tokens budget from. refl);
+      route = inr (λ tokens calls budget from. refl);
     }
 
 begins-read : BeginsExpression (Some (kinds.Key keys.Read))
 unfolding statement_on keyed simple_on
 begins-read = record {
   simple =
-      record { begins = record { else_not = refl; int_not = refl; static_not = refl; brace_not = refl }; semicolon_not = refl; paren_not = refl; ended = λ tokens inner budget from. refl };
-  route = inr (λ tokens budget from. refl);
+      record { begins = record { else_not = refl; int_not = refl; static_not = refl; brace_not = refl }; semicolon_not = refl; paren_not = refl; ended = λ tokens calls inner budget from. refl };
+  route = inr (λ tokens calls budget from. refl);
 }
 
 begins-paren : BeginsExpression (Some (kinds.Mark marks.LeftParen))
 unfolding statement_on started simple_on marked step_of
 begins-paren = record {
   simple =
-      record { begins = record { else_not = refl; int_not = refl; static_not = refl; brace_not = refl }; semicolon_not = refl; paren_not = refl; ended = λ tokens inner budget from. refl };
-  route = inr (λ tokens budget from. refl);
+      record { begins = record { else_not = refl; int_not = refl; static_not = refl; brace_not = refl }; semicolon_not = refl; paren_not = refl; ended = λ tokens calls inner budget from. refl };
+  route = inr (λ tokens calls budget from. refl);
 }
 
 begins-sign : (mark : Mark) (sign : Option UnaryOp) → prefix_of mark ≡ Some sign → BeginsExpression (Some (kinds.Mark mark))
@@ -90,9 +94,9 @@ begins-sign marks.Plus sign is =
         semicolon_not = refl;
         paren_not = refl;
         ended =
-            λ tokens inner budget from. refl;
+            λ tokens calls inner budget from. refl;
       };
-      route = inr (λ tokens budget from. refl);
+      route = inr (λ tokens calls budget from. refl);
     }
 begins-sign marks.Minus sign is =
     record {
@@ -101,9 +105,9 @@ begins-sign marks.Minus sign is =
         semicolon_not = refl;
         paren_not = refl;
         ended =
-            λ tokens inner budget from. refl;
+            λ tokens calls inner budget from. refl;
       };
-      route = inr (λ tokens budget from. refl);
+      route = inr (λ tokens calls budget from. refl);
     }
 begins-sign marks.Tilde sign is =
     record {
@@ -112,9 +116,9 @@ begins-sign marks.Tilde sign is =
         semicolon_not = refl;
         paren_not = refl;
         ended =
-            λ tokens inner budget from. refl;
+            λ tokens calls inner budget from. refl;
       };
-      route = inr (λ tokens budget from. refl);
+      route = inr (λ tokens calls budget from. refl);
     }
 begins-sign marks.Not sign is =
     record {
@@ -123,23 +127,24 @@ begins-sign marks.Not sign is =
         semicolon_not = refl;
         paren_not = refl;
         ended =
-            λ tokens inner budget from. refl;
+            λ tokens calls inner budget from. refl;
       };
-      route = inr (λ tokens budget from. refl);
+      route = inr (λ tokens calls budget from. refl);
     }
 begins-sign mark sign is = cc
 
 begins-step : (mark : Mark) (op : BinaryOp) → step_of mark ≡ Some op → BeginsSimple (Some (kinds.Mark mark))
 unfolding statement_on started step_of
 begins-step marks.PlusPlus op is =
-    record { begins = record { else_not = refl; int_not = refl; static_not = refl; brace_not = refl }; semicolon_not = refl; paren_not = refl; ended = λ tokens inner budget from. refl }
+    record { begins = record { else_not = refl; int_not = refl; static_not = refl; brace_not = refl }; semicolon_not = refl; paren_not = refl; ended = λ tokens calls inner budget from. refl }
 begins-step marks.MinusMinus op is =
-    record { begins = record { else_not = refl; int_not = refl; static_not = refl; brace_not = refl }; semicolon_not = refl; paren_not = refl; ended = λ tokens inner budget from. refl }
+    record { begins = record { else_not = refl; int_not = refl; static_not = refl; brace_not = refl }; semicolon_not = refl; paren_not = refl; ended = λ tokens calls inner budget from. refl }
 begins-step mark op is = cc
 
 begins-print : BeginsSimple (Some (kinds.Key keys.Print))
 unfolding statement_on keyed
-begins-print = record { begins = record { else_not = refl; int_not = refl; static_not = refl; brace_not = refl }; semicolon_not = refl; paren_not = refl; ended = λ tokens inner budget from. refl }
+begins-print =
+    record { begins = record { else_not = refl; int_not = refl; static_not = refl; brace_not = refl }; semicolon_not = refl; paren_not = refl; ended = λ tokens calls inner budget from. refl }
 
 module _ (tokens : List Token) where
   mutual
@@ -163,26 +168,29 @@ module _ (tokens : List Token) where
     primary-begins p t h q (ReadsPrimary.input is open' close') = subst BeginsExpression (sym is) begins-read
     primary-begins p t h q (ReadsPrimary.grouped is d close') = subst BeginsExpression (sym is) begins-paren
 
-  target-begins : (p : ℕ) (t : Target) (h q : ℕ) → ReadsTarget tokens p t h q → BeginsSimple (kind_at tokens p)
-  target-begins p t h q (ReadsTarget.name {symbol = symbol} is) = (subst BeginsExpression (sym is) (begins-name symbol)).simple
-  target-begins p t h q (ReadsTarget.element {symbol = symbol} is open' d close') = (subst BeginsExpression (sym is) (begins-name symbol)).simple
+  lvalue-begins : (p : ℕ) (t : Lvalue) (h q : ℕ) → ReadsLvalue tokens p t h q → BeginsSimple (kind_at tokens p)
+  lvalue-begins p t h q (ReadsLvalue.name {symbol = symbol} is) = (subst BeginsExpression (sym is) (begins-name symbol)).simple
+  lvalue-begins p t h q (ReadsLvalue.element {symbol = symbol} is open' d close') = (subst BeginsExpression (sym is) (begins-name symbol)).simple
 
-  pub simple-begins : (p : ℕ) (s : SourceStatement) (h q : ℕ) → ReadsSimple tokens p s h q → BeginsSimple (kind_at tokens p)
-  simple-begins p s h q (ReadsSimple.assignment {i = i} {q = r} {target = target} d mark op e) = target-begins p target i r d
-  simple-begins p s h q (ReadsSimple.step_behind {height = i} {q = r} {target = target} d mark op) = target-begins p target i r d
-  simple-begins p s h q (ReadsSimple.step_before {mark = mark} {op = op} is step d) = subst BeginsSimple (sym is) (begins-step mark op step)
-  simple-begins p s h q (ReadsSimple.print is d) = subst BeginsSimple (sym is) begins-print
-  simple-begins p s h q (ReadsSimple.evaluation {height = i} {value = value} d) = (expression-begins p value i q d).simple
+  module _ (calls : Calls) where
+    pub simple-begins : (p : ℕ) (s : UnitStatement) (h q : ℕ) → ReadsSimple tokens calls p s h q → BeginsSimple (kind_at tokens p)
+    simple-begins p s h q (ReadsSimple.assignment {i = i} {q = r} {lvalue = lvalue} d mark op e) = lvalue-begins p lvalue i r d
+    simple-begins p s h q (ReadsSimple.step_behind {height = i} {q = r} {lvalue = lvalue} d mark op) = lvalue-begins p lvalue i r d
+    simple-begins p s h q (ReadsSimple.step_before {mark = mark} {op = op} is step d) = subst BeginsSimple (sym is) (begins-step mark op step)
+    simple-begins p s h q (ReadsSimple.print is d) = subst BeginsSimple (sym is) begins-print
+    simple-begins p s h q (ReadsSimple.evaluation {height = i} {value = value} d) = (expression-begins p value i q d).simple
+    simple-begins p s h q (ReadsSimple.call {function = function} may (ReadsCall.call is open' d)) = (subst BeginsExpression (sym is) (begins-name function)).simple
+    simple-begins p s h q (ReadsSimple.assigned_call {symbol = symbol} may is assign d) = (subst BeginsExpression (sym is) (begins-name symbol)).simple
 
-  pub statement-begins : (p : ℕ) (s : SourceStatement) (h q : ℕ) → ReadsStatement tokens p s h q → CanBegin (kind_at tokens p)
-  statement-begins p s h q (ReadsStatement.block is d) = subst CanBegin (sym is) record { else_not = refl; int_not = refl; static_not = refl; brace_not = refl }
-  statement-begins p s h q (ReadsStatement.empty is) = subst CanBegin (sym is) record { else_not = refl; int_not = refl; static_not = refl; brace_not = refl }
-  statement-begins p s h q (ReadsStatement.simple {height = i} {q = r} {tree = tree} d is) = (simple-begins p tree i r d).begins
-  statement-begins p s h q (ReadsStatement.branch is d e) = subst CanBegin (sym is) record { else_not = refl; int_not = refl; static_not = refl; brace_not = refl }
-  statement-begins p s h q (ReadsStatement.branch_else is d e closed is' f) = subst CanBegin (sym is) record { else_not = refl; int_not = refl; static_not = refl; brace_not = refl }
-  statement-begins p s h q (ReadsStatement.while_loop is d e) = subst CanBegin (sym is) record { else_not = refl; int_not = refl; static_not = refl; brace_not = refl }
-  statement-begins p s h q (ReadsStatement.do_loop is d is' e close') = subst CanBegin (sym is) record { else_not = refl; int_not = refl; static_not = refl; brace_not = refl }
-  statement-begins p s h q (ReadsStatement.for_loop is open' d e f g) = subst CanBegin (sym is) record { else_not = refl; int_not = refl; static_not = refl; brace_not = refl }
-  statement-begins p s h q (ReadsStatement.break_out is close') = subst CanBegin (sym is) record { else_not = refl; int_not = refl; static_not = refl; brace_not = refl }
-  statement-begins p s h q (ReadsStatement.continue_on is close') = subst CanBegin (sym is) record { else_not = refl; int_not = refl; static_not = refl; brace_not = refl }
-  statement-begins p s h q (ReadsStatement.return_from is d close') = subst CanBegin (sym is) record { else_not = refl; int_not = refl; static_not = refl; brace_not = refl }
+    pub statement-begins : (p : ℕ) (s : UnitStatement) (h q : ℕ) → ReadsStatement tokens calls p s h q → CanBegin (kind_at tokens p)
+    statement-begins p s h q (ReadsStatement.block is d) = subst CanBegin (sym is) record { else_not = refl; int_not = refl; static_not = refl; brace_not = refl }
+    statement-begins p s h q (ReadsStatement.empty is) = subst CanBegin (sym is) record { else_not = refl; int_not = refl; static_not = refl; brace_not = refl }
+    statement-begins p s h q (ReadsStatement.simple {height = i} {q = r} {tree = tree} d is) = (simple-begins p tree i r d).begins
+    statement-begins p s h q (ReadsStatement.branch is d e) = subst CanBegin (sym is) record { else_not = refl; int_not = refl; static_not = refl; brace_not = refl }
+    statement-begins p s h q (ReadsStatement.branch_else is d e closed is' f) = subst CanBegin (sym is) record { else_not = refl; int_not = refl; static_not = refl; brace_not = refl }
+    statement-begins p s h q (ReadsStatement.while_loop is d e) = subst CanBegin (sym is) record { else_not = refl; int_not = refl; static_not = refl; brace_not = refl }
+    statement-begins p s h q (ReadsStatement.do_loop is d is' e close') = subst CanBegin (sym is) record { else_not = refl; int_not = refl; static_not = refl; brace_not = refl }
+    statement-begins p s h q (ReadsStatement.for_loop is open' d e f g) = subst CanBegin (sym is) record { else_not = refl; int_not = refl; static_not = refl; brace_not = refl }
+    statement-begins p s h q (ReadsStatement.break_out is close') = subst CanBegin (sym is) record { else_not = refl; int_not = refl; static_not = refl; brace_not = refl }
+    statement-begins p s h q (ReadsStatement.continue_on is close') = subst CanBegin (sym is) record { else_not = refl; int_not = refl; static_not = refl; brace_not = refl }
+    statement-begins p s h q (ReadsStatement.return_from is d close') = subst CanBegin (sym is) record { else_not = refl; int_not = refl; static_not = refl; brace_not = refl }

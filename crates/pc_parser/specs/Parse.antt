@@ -5,7 +5,10 @@ use Rattle.pc_syntax.specs.Source.{SourceProgram}
 use Rattle.pc_syntax.specs.declared.program.Program.{Program}
 use Rattle.pc_parser.specs.declared.unit.ParseError.{ParseError}
 use Rattle.pc_parser.specs.declared.unit.ParseError.TheVariants as errors
+use Rattle.pc_syntax.specs.Unit.{TranslationUnit}
+use Rattle.pc_syntax.specs.declared.unit.SourceUnit.{SourceUnit}
 use Rattle.pc_parser.specs.Statements.{ReadsProgram}
+use Rattle.pc_parser.specs.Units.{ReadsUnit}
 
 -- the tokens are read as this program, and its height is at most this
 abbrev pub IsReadWithin : ℕ → List Token → SourceProgram → Type 0
@@ -38,9 +41,32 @@ error_line tokens at = unwrap_or (line_told tokens at) (unwrap_or (line_told tok
 abbrev pub IsPlaceOfLine : List Token → (at line : ℕ) → Type 0
 IsPlaceOfLine tokens at line = (at ≤ length tokens) × (line ≡ error_line tokens at)
 
--- the tokens are refused, other than for want of memory
+-- an error is other than for want of memory
+abbrev pub Refuses : ParseError → Type 0
+Refuses (errors.Syntax at line) = Unit {0}
+Refuses (errors.TooNested at line) = Unit {0}
+Refuses errors.Memory = ⊥
+
+-- the tokens are refused as a program, other than for want of memory
 abbrev pub RefusesTokens : Result Program ParseError → Type 0
 RefusesTokens (Ok program) = ⊥
-RefusesTokens (Err (errors.Syntax at line)) = Unit {0}
-RefusesTokens (Err (errors.TooNested at line)) = Unit {0}
-RefusesTokens (Err errors.Memory) = ⊥
+RefusesTokens (Err error) = Refuses error
+
+-- the tokens are refused as a unit, other than for want of memory
+abbrev pub RefusesUnit : Result SourceUnit ParseError → Type 0
+RefusesUnit (Ok source) = ⊥
+RefusesUnit (Err error) = Refuses error
+
+-- the tokens are read as this unit, and its height is at most this
+abbrev pub IsUnitReadWithin : ℕ → List Token → TranslationUnit → Type 0
+IsUnitReadWithin most tokens unit = (height : ℕ) × (height ≤ most) × ReadsUnit tokens unit height
+
+-- no unit, however high, reads what begins with the tokens up to a place
+abbrev pub NothingReadsUnit : List Token → ℕ → Type 0
+NothingReadsUnit tokens at =
+    (others : List Token) (unit : TranslationUnit) (height : ℕ) → AgreeUpTo at others tokens → ReadsUnit others unit height → ⊥
+
+-- no unit of at most this height reads what begins with the tokens up to a place
+abbrev pub NothingReadsUnitWithin : ℕ → List Token → ℕ → Type 0
+NothingReadsUnitWithin most tokens at =
+    (others : List Token) (unit : TranslationUnit) (height : ℕ) → AgreeUpTo at others tokens → height ≤ most → ReadsUnit others unit height → ⊥

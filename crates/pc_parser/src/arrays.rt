@@ -1,8 +1,9 @@
 //! The declarators of a static declaration: arrays, with or without an initialiser.
 ghost use Rattle.std.specs.Prelude.{◌≡◌, ◌+◌, ◌<◌, ◌≤◌, length, IfOk};
-ghost use Rattle.pc_syntax.specs.Erasure.{statement_of};
+ghost use Rattle.pc_syntax.specs.UnitErasure.{unit_statement_of};
+ghost use Rattle.pc_parser.specs.models.Tests.{symbol_of};
 ghost use Rattle.pc_parser.specs.Places.{kind_at};
-ghost use Rattle.pc_parser.specs.models.StatementParser.{plain, negated, constant_at, constants_at, valued, sized, fixed_on, number_of, length_of, symbol_of};
+ghost use Rattle.pc_parser.specs.models.StatementParser.{plain, negated, constant_at, constants_at, valued, sized, fixed_on, number_of, length_of};
 ghost use Rattle.pc_parser.specs.models.Parsing.{GivesParsed};
 
 use crate::outcome::{Failure, Parsed};
@@ -83,7 +84,7 @@ fn valued(
     place: usize,
 ) -> Result<Parsed<Stmt>, Failure>
     requires { place + 5 ≤ length tokens.now }
-    ensures gives { GivesParsed statement_of result (valued tokens.now symbol place size) }
+    ensures gives { GivesParsed unit_statement_of result (valued tokens.now symbol place size) }
     ensures ends { IfOk result (λ parsed. (parsed.height ≡ 1) × (parsed.next ≤ length tokens.now) × (place < parsed.next)) }
 {
     expect(tokens, Mark::LeftBrace, place + 5)?;
@@ -112,7 +113,7 @@ fn sized(
     place: usize,
 ) -> Result<Parsed<Stmt>, Failure>
     requires { place + 2 ≤ length tokens.now }
-    ensures gives { GivesParsed statement_of result (sized tokens.now symbol place (length_of (kind_at tokens.now (place + 2)))) }
+    ensures gives { GivesParsed unit_statement_of result (sized tokens.now symbol place (length_of (kind_at tokens.now (place + 2)))) }
     ensures ends { IfOk result (λ parsed. (parsed.height ≡ 1) × (parsed.next ≤ length tokens.now) × (place < parsed.next)) }
 {
     match length_at(tokens, place + 2) {
@@ -143,7 +144,7 @@ fn sized(
 #[tactic(auto, using(crate::proofs::Budgets::budgets), unfolding(crate::specs::models::StatementParser::fixed_on))]
 pub(crate) fn fixed(alloc: Global, tokens: &[Token], place: usize) -> Result<Parsed<Stmt>, Failure>
     requires { place ≤ length tokens.now }
-    ensures gives { GivesParsed statement_of result (fixed_on tokens.now (symbol_of (kind_at tokens.now place)) place) }
+    ensures gives { GivesParsed unit_statement_of result (fixed_on tokens.now (symbol_of (kind_at tokens.now place)) place) }
     ensures ends { IfOk result (λ parsed. (parsed.height ≡ 1) × (parsed.next ≤ length tokens.now) × (place < parsed.next)) }
 {
     match symbol_at(tokens, place) {

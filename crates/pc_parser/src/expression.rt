@@ -1,14 +1,14 @@
 ghost use Rattle.std.specs.Prelude.{◌≡◌, ℕ, ◌+◌, ◌<◌, ◌≤◌, None, length, IfOk};
 ghost use Rattle.pc_word.specs.SourceLimits.{most_tokens};
 ghost use Rattle.pc_syntax.specs.Erasure.{expression_of};
-ghost use Rattle.pc_parser.specs.models.ExpressionParser.{target_named, name_at, literal_at, grouped, input, primary_on, signed, unary_at, infixed_at, choice, climb, operand, expression_at, below};
-ghost use Rattle.pc_parser.specs.models.Parsing.{GivesParsed, target_of, AtPlace, UpTo};
+ghost use Rattle.pc_parser.specs.models.ExpressionParser.{lvalue_named, name_at, literal_at, grouped, input, primary_on, signed, unary_at, infixed_at, choice, climb, operand, expression_at, below};
+ghost use Rattle.pc_parser.specs.models.Parsing.{GivesParsed, lvalue_of, AtPlace, UpTo};
 ghost use Rattle.pc_parser.specs.Places.{kind_at};
 
+use crate::lvalue::{Lvalue, height_as_tree, lvalue_tree};
 use crate::operator::Operator;
 use crate::outcome::{Failure, Parsed, within};
 use crate::place::{expect, is_mark, kind_at, line_at, operator_at, sign_at};
-use crate::target::{Target, height_as_tree, target_tree};
 use crate::tree::{choose, join_trees, prefix};
 use pc_lexer::{Keyword, Mark, Token, TokenKind};
 use pc_syntax::{Expr, UnaryOp};
@@ -256,26 +256,26 @@ fn name(
     ensures ends { IfOk result (λ parsed. UpTo tokens.now budget parsed.height parsed.next) }
 {
     within(1, budget, place)?;
-    let target = target_named(alloc, tokens, budget, symbol, place)?;
-    let next = target.next;
-    let height = height_as_tree(&target.tree, target.height);
-    let tree = target_tree(alloc, target.tree)?;
+    let lvalue = lvalue_named(alloc, tokens, budget, symbol, place)?;
+    let next = lvalue.next;
+    let height = height_as_tree(&lvalue.tree, lvalue.height);
+    let tree = lvalue_tree(alloc, lvalue.tree)?;
     Ok(Parsed { tree, height, next })
 }
 
-/// Reads the target at a name: the name, or the element of the array with the name.
+/// Reads the lvalue at a name: the name, or the element of the array with the name.
 #[cycle(expression)]
-#[tactic(auto, using(crate::proofs::Budgets::budgets), unfolding(crate::specs::models::ExpressionParser::target_named))]
-pub(crate) fn target_named(
+#[tactic(auto, using(crate::proofs::Budgets::budgets), unfolding(crate::specs::models::ExpressionParser::lvalue_named))]
+pub(crate) fn lvalue_named(
     alloc: Global,
     tokens: &[Token],
     budget: usize,
     symbol: u32,
     place: usize,
-) -> Result<Parsed<Target>, Failure>
+) -> Result<Parsed<Lvalue>, Failure>
     requires stands { AtPlace tokens.now budget place }
     requires more { place + 1 ≤ length tokens.now }
-    ensures gives { GivesParsed target_of result (target_named tokens.now (below tokens.now budget) budget symbol place) }
+    ensures gives { GivesParsed lvalue_of result (lvalue_named tokens.now (below tokens.now budget) budget symbol place) }
     ensures ends { IfOk result (λ parsed. UpTo tokens.now budget parsed.height parsed.next) }
 {
     let line = line_at(tokens, place);
@@ -287,7 +287,7 @@ pub(crate) fn target_named(
     let index = expression(alloc, tokens, budget - 1, EXPRESSION, place + 2)?;
     expect(tokens, Mark::RightBracket, index.next)?;
     Ok(Parsed {
-        tree: Target {
+        tree: Lvalue {
             symbol,
             line,
             index: Some(index.tree),
@@ -298,15 +298,15 @@ pub(crate) fn target_named(
     })
 }
 
-/// A name as a target. Its height is that of no expression.
-fn lone_name(symbol: u32, line: u32, place: usize) -> Parsed<Target>
+/// A name as an lvalue. Its height is that of no expression.
+fn lone_name(symbol: u32, line: u32, place: usize) -> Parsed<Lvalue>
     requires { place < most_tokens }
-    ensures tree { target_of result.tree ≡ record { symbol = symbol; line = line; index = None; bracket = line } }
+    ensures tree { lvalue_of result.tree ≡ record { symbol = symbol; line = line; index = None; bracket = line } }
     ensures height { result.height ≡ 0 }
     ensures next { result.next ≡ place + 1 }
 {
     Parsed {
-        tree: Target {
+        tree: Lvalue {
             symbol,
             line,
             index: None,

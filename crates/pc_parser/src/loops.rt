@@ -1,9 +1,11 @@
 //! The loops, and the parts of a `for`.
 ghost use Rattle.std.specs.Prelude.{◌≡◌, ◌+◌, ◌≤◌, length, IfOk};
-ghost use Rattle.pc_syntax.specs.Erasure.{expression_of, statement_of, list_of, optional_of};
+ghost use Rattle.pc_syntax.specs.Erasure.{expression_of};
+ghost use Rattle.pc_syntax.specs.UnitErasure.{unit_statement_of, unit_list_of, unit_optional_of};
 ghost use Rattle.pc_parser.specs.models.StatementParser.{first_at, condition_at, step_at, while_at, do_at, for_body, for_at, statement_below};
 ghost use Rattle.pc_parser.specs.models.Parsing.{GivesParsed, AtPlace, UpTo};
 
+use crate::calls::Calls;
 use crate::declaration::declaration;
 use crate::expression::{EXPRESSION, expression};
 use crate::outcome::{Failure, Parsed, within};
@@ -22,17 +24,18 @@ use std::alloc::Global;
 pub(crate) fn while_loop(
     alloc: Global,
     tokens: &[Token],
+    calls: Calls,
     budget: usize,
     place: usize,
 ) -> Result<Parsed<Stmt>, Failure>
     requires stands { AtPlace tokens.now budget place }
     requires more { place + 1 ≤ length tokens.now }
-    ensures gives { GivesParsed statement_of result (while_at tokens.now (statement_below tokens.now budget) budget place) }
+    ensures gives { GivesParsed unit_statement_of result (while_at tokens.now (statement_below tokens.now calls budget) budget place) }
     ensures ends { IfOk result (λ parsed. UpTo tokens.now budget parsed.height parsed.next) }
 {
     within(2, budget, place)?;
     let condition = test(alloc, tokens, budget - 1, place + 1)?;
-    let body = statement(alloc, tokens, budget - 1, condition.next)?;
+    let body = statement(alloc, tokens, calls, budget - 1, condition.next)?;
     let next = body.next;
     let height = condition.height.max(body.height) + 1;
     let line = line_at(tokens, place);
@@ -46,16 +49,17 @@ pub(crate) fn while_loop(
 pub(crate) fn do_loop(
     alloc: Global,
     tokens: &[Token],
+    calls: Calls,
     budget: usize,
     place: usize,
 ) -> Result<Parsed<Stmt>, Failure>
     requires stands { AtPlace tokens.now budget place }
     requires more { place + 1 ≤ length tokens.now }
-    ensures gives { GivesParsed statement_of result (do_at tokens.now (statement_below tokens.now budget) budget place) }
+    ensures gives { GivesParsed unit_statement_of result (do_at tokens.now (statement_below tokens.now calls budget) budget place) }
     ensures ends { IfOk result (λ parsed. UpTo tokens.now budget parsed.height parsed.next) }
 {
     within(2, budget, place)?;
-    let body = statement(alloc, tokens, budget - 1, place + 1)?;
+    let body = statement(alloc, tokens, calls, budget - 1, place + 1)?;
     expect_key(tokens, Keyword::While, body.next)?;
     let condition = test(alloc, tokens, budget - 1, body.next + 1)?;
     expect(tokens, Mark::Semicolon, condition.next)?;
@@ -72,19 +76,20 @@ pub(crate) fn do_loop(
 pub(crate) fn for_loop(
     alloc: Global,
     tokens: &[Token],
+    calls: Calls,
     budget: usize,
     place: usize,
 ) -> Result<Parsed<Stmt>, Failure>
     requires stands { AtPlace tokens.now budget place }
     requires more { place + 1 ≤ length tokens.now }
-    ensures gives { GivesParsed statement_of result (for_at tokens.now (statement_below tokens.now budget) budget place) }
+    ensures gives { GivesParsed unit_statement_of result (for_at tokens.now calls (statement_below tokens.now calls budget) budget place) }
     ensures ends { IfOk result (λ parsed. UpTo tokens.now budget parsed.height parsed.next) }
 {
     within(2, budget, place)?;
     expect(tokens, Mark::LeftParen, place + 1)?;
-    let first = first(alloc, tokens, budget - 1, place + 2)?;
+    let first = first(alloc, tokens, calls, budget - 1, place + 2)?;
     let condition = condition(alloc, tokens, budget - 1, first.next)?;
-    let step = step(alloc, tokens, budget - 1, condition.next)?;
+    let step = step(alloc, tokens, calls, budget - 1, condition.next)?;
     let height = first.height.max(condition.height.max(step.height));
     let head = ForHead {
         line: line_at(tokens, place),
@@ -92,7 +97,7 @@ pub(crate) fn for_loop(
         condition: condition.tree,
         step: step.tree,
     };
-    for_body(alloc, tokens, budget, head, height, step.next)
+    for_body(alloc, tokens, calls, budget, head, height, step.next)
 }
 
 /// Reads the body of a `for`, after its `)`.
@@ -101,6 +106,7 @@ pub(crate) fn for_loop(
 fn for_body(
     alloc: Global,
     tokens: &[Token],
+    calls: Calls,
     budget: usize,
     head: ForHead,
     height: usize,
@@ -109,11 +115,11 @@ fn for_body(
     requires stands { AtPlace tokens.now budget place }
     requires some { 1 ≤ budget }
     requires low { height + 1 ≤ budget }
-    ensures gives { GivesParsed statement_of result (for_body tokens.now (statement_below tokens.now budget) budget head.line (list_of head.first)
-        (expression_of head.condition) (optional_of head.step) height place) }
+    ensures gives { GivesParsed unit_statement_of result (for_body tokens.now (statement_below tokens.now calls budget) budget head.line (unit_list_of head.first)
+        (expression_of head.condition) (unit_optional_of head.step) height place) }
     ensures ends { IfOk result (λ parsed. UpTo tokens.now budget parsed.height parsed.next) }
 {
-    let body = statement(alloc, tokens, budget - 1, place)?;
+    let body = statement(alloc, tokens, calls, budget - 1, place)?;
     let next = body.next;
     let height = height.max(body.height) + 1;
     let tree = for_tree(alloc, head, body.tree)?;
@@ -125,16 +131,17 @@ fn for_body(
 fn first(
     alloc: Global,
     tokens: &[Token],
+    calls: Calls,
     budget: usize,
     place: usize,
 ) -> Result<Parsed<StmtList>, Failure>
     requires { AtPlace tokens.now budget place }
-    ensures gives { GivesParsed list_of result (first_at tokens.now budget place) }
+    ensures gives { GivesParsed unit_list_of result (first_at tokens.now calls budget place) }
     ensures ends { IfOk result (λ parsed. UpTo tokens.now budget parsed.height parsed.next) }
 {
     let mut items = Seq::new(alloc);
     if is_key(tokens, Keyword::Int, place) {
-        return declaration(alloc, tokens, budget, items, place);
+        return declaration(alloc, tokens, calls, budget, items, place);
     }
     if is_mark(tokens, Mark::Semicolon, place) {
         return Ok(Parsed {
@@ -143,7 +150,7 @@ fn first(
             next: place + 1,
         });
     }
-    let stated = ended(alloc, tokens, budget, place)?;
+    let stated = ended(alloc, tokens, calls, budget, place)?;
     items.push(stated.tree)?;
     Ok(Parsed {
         tree: items,
@@ -185,11 +192,12 @@ fn condition(
 fn step(
     alloc: Global,
     tokens: &[Token],
+    calls: Calls,
     budget: usize,
     place: usize,
 ) -> Result<Parsed<Option<Box<Stmt>>>, Failure>
     requires { AtPlace tokens.now budget place }
-    ensures gives { GivesParsed optional_of result (step_at tokens.now budget place) }
+    ensures gives { GivesParsed unit_optional_of result (step_at tokens.now calls budget place) }
     ensures ends { IfOk result (λ parsed. UpTo tokens.now budget parsed.height parsed.next) }
 {
     if is_mark(tokens, Mark::RightParen, place) {
@@ -199,7 +207,7 @@ fn step(
             next: place + 1,
         });
     }
-    let open = simple(alloc, tokens, budget, place)?;
+    let open = simple(alloc, tokens, calls, budget, place)?;
     let given = close(tokens, Mark::RightParen, budget, open)?;
     let boxed = Box::new(alloc, given.tree)?;
     Ok(Parsed {

@@ -1,9 +1,9 @@
 ghost use Rattle.std.specs.Prelude.{◌≡◌, ℕ, ◌+◌, ◌<◌, ◌≤◌, true, false, length, OnSome, IfSome, OnOk, MatchResult};
 ghost use Rattle.std.specs.Bool.{OnTrue};
 ghost use Rattle.pc_parser.specs.Places.{kind_at, line_at};
-ghost use Rattle.pc_parser.specs.models.Tests.{is_mark, is_key};
+ghost use Rattle.pc_parser.specs.models.Tests.{is_mark, is_key, symbol_of};
 ghost use Rattle.pc_parser.specs.models.ExpressionParser.{operator_from, sign_of};
-ghost use Rattle.pc_parser.specs.models.StatementParser.{assignment_from, step_from, symbol_of, length_of, number_of};
+ghost use Rattle.pc_parser.specs.models.StatementParser.{assignment_from, step_from, length_of, number_of};
 
 use crate::operator::{Operator, assignment_of, operator_of, prefix_of, step_of};
 use crate::outcome::Failure;
@@ -149,7 +149,7 @@ pub(crate) fn step_at(tokens: &[Token], place: usize) -> Option<BinaryOp>
 }
 
 /// The symbol of the name at a place.
-#[tactic(auto, unfolding(crate::specs::models::StatementParser::symbol_of))]
+#[tactic(auto, unfolding(crate::specs::models::Tests::symbol_of))]
 pub(crate) fn symbol_at(tokens: &[Token], place: usize) -> Option<u32>
     ensures value { result ≡ symbol_of (kind_at tokens.now place) }
     ensures inside { OnSome result (place < length tokens.now) }

@@ -1,20 +1,26 @@
 ghost use Rattle.std.specs.Prelude.{◌≡◌, ℕ, pos, ◌+◌, ◌-◌, ◌<◌, ◌≤◌, Some, length, IfOk};
 ghost use Rattle.pc_word.specs.SourceLimits.{most_tokens};
-ghost use Rattle.pc_syntax.specs.Erasure.{expression_of, statement_of};
+ghost use Rattle.pc_syntax.specs.Erasure.{expression_of};
+ghost use Rattle.pc_syntax.specs.UnitErasure.{unit_statement_of};
 ghost use Rattle.pc_parser.specs.Places.{kind_at, line_at};
-ghost use Rattle.pc_syntax.specs.Source.{Evaluation, Literal};
+ghost use Rattle.pc_syntax.specs.Source.{Literal};
+ghost use Rattle.pc_syntax.specs.Unit.{Eval};
 ghost use Rattle.pc_parser.specs.Statements.{assigned};
-ghost use Rattle.pc_parser.specs.models.StatementParser.{parenthesized_at, closed_behind, name_budget, target_at, evaluation, evaluation_from, print_at, step_before, assignment, behind_target};
-ghost use Rattle.pc_parser.specs.models.StatementParser.{on_target, named, marked, simple_on, simple_at, assignment_from, step_from};
-ghost use Rattle.pc_parser.specs.models.Parsing.{GivesParsed, target_of, AtPlace, UpTo};
+ghost use Rattle.pc_parser.specs.models.StatementParser.{parenthesized_at, closed_behind, name_budget, lvalue_at, evaluation, evaluation_from, print_at, step_before, assignment, behind_lvalue};
+ghost use Rattle.pc_parser.specs.models.StatementParser.{assigning, after_lvalue, named, marked, simple_on, simple_at, assignment_from, step_from};
+ghost use Rattle.pc_parser.specs.models.CallParser.{settled_at, value_at};
+ghost use Rattle.pc_parser.specs.models.Outcome.{after};
+ghost use Rattle.pc_parser.specs.models.Parsing.{GivesParsed, lvalue_of, AtPlace, UpTo};
 
-use crate::expression::{EXPRESSION, LOOSEST, choice, climb, expression, target_named};
+use crate::call::{CallHead, call, call_for, callable, called_at, opens_call, value};
+use crate::calls::Calls;
+use crate::expression::{EXPRESSION, LOOSEST, choice, climb, expression, lvalue_named};
+use crate::lvalue::{Lvalue, height_as_tree, lvalue_tree};
 use crate::operator::step_of;
 use crate::outcome::{Failure, Parsed, within};
 use crate::place::{assignment_at, expect, kind_at, line_at, step_at, symbol_at};
-use crate::target::{Target, height_as_tree, target_tree};
 use pc_lexer::{Keyword, Mark, Token, TokenKind};
-use pc_syntax::{BinaryOp, Expr, Stmt};
+use pc_syntax::{BinaryOp, Expr, Stmt, Target};
 use std::alloc::Global;
 
 /// Reads an expression in the parentheses that a keyword wants.
@@ -49,7 +55,7 @@ pub(crate) fn close(
     statement: Parsed<Stmt>,
 ) -> Result<Parsed<Stmt>, Failure>
     requires { AtPlace tokens.now budget statement.next }
-    ensures gives { GivesParsed statement_of result (closed_behind tokens.now mark budget (statement_of statement.tree) statement.height statement.next) }
+    ensures gives { GivesParsed unit_statement_of result (closed_behind tokens.now mark budget (unit_statement_of statement.tree) statement.height statement.next) }
     ensures ends { IfOk result (λ parsed. UpTo tokens.now budget parsed.height parsed.next) }
 {
     let at = statement.next;
@@ -71,21 +77,21 @@ fn name_budget(budget: usize) -> usize
     (budget - 1).max(1)
 }
 
-/// Reads a target.
-#[tactic(auto, using(crate::proofs::Budgets::budgets), unfolding(crate::specs::models::StatementParser::target_at, crate::specs::models::StatementParser::target_on))]
-fn target(
+/// Reads an lvalue.
+#[tactic(auto, using(crate::proofs::Budgets::budgets), unfolding(crate::specs::models::StatementParser::lvalue_at, crate::specs::models::StatementParser::lvalue_on))]
+fn lvalue(
     alloc: Global,
     tokens: &[Token],
     budget: usize,
     place: usize,
-) -> Result<Parsed<Target>, Failure>
+) -> Result<Parsed<Lvalue>, Failure>
     requires stands { AtPlace tokens.now budget place }
     requires some { 1 ≤ budget }
-    ensures gives { GivesParsed target_of result (target_at tokens.now budget place) }
+    ensures gives { GivesParsed lvalue_of result (lvalue_at tokens.now budget place) }
     ensures ends { IfOk result (λ parsed. UpTo tokens.now (name_budget budget) parsed.height parsed.next) }
 {
     match symbol_at(tokens, place) {
-        Some(symbol) => target_named(alloc, tokens, name_budget(budget), symbol, place),
+        Some(symbol) => lvalue_named(alloc, tokens, name_budget(budget), symbol, place),
         None => Err(Failure::Syntax { at: place }),
     }
 }
@@ -94,7 +100,7 @@ fn target(
 #[tactic(auto, using(crate::proofs::Budgets::tree_forms))]
 fn evaluated(tokens: &[Token], place: usize, value: Parsed<Expr>) -> Parsed<Stmt>
     requires { value.height < most_tokens }
-    ensures tree { statement_of result.tree ≡ Evaluation (line_at tokens.now place) (expression_of value.tree) }
+    ensures tree { unit_statement_of result.tree ≡ Eval (line_at tokens.now place) (expression_of value.tree) }
     ensures height { result.height ≡ value.height + 1 }
     ensures next { result.next ≡ value.next }
 {
@@ -118,32 +124,32 @@ fn evaluation(
     place: usize,
 ) -> Result<Parsed<Stmt>, Failure>
     requires { AtPlace tokens.now budget place }
-    ensures gives { GivesParsed statement_of result (evaluation tokens.now budget place) }
+    ensures gives { GivesParsed unit_statement_of result (evaluation tokens.now budget place) }
     ensures ends { IfOk result (λ parsed. UpTo tokens.now (budget + 1) parsed.height parsed.next) }
 {
     let value = expression(alloc, tokens, budget.saturating_sub(1), EXPRESSION, place)?;
     Ok(evaluated(tokens, place, value))
 }
 
-/// Reads the expression that goes on after a target, as a statement.
+/// Reads the expression that goes on after an lvalue, as a statement.
 #[tactic(auto, using(crate::proofs::Budgets::budgets), unfolding(crate::specs::models::StatementParser::evaluation_from))]
 fn evaluation_from(
     alloc: Global,
     tokens: &[Token],
     budget: usize,
     place: usize,
-    target: Parsed<Target>,
+    lvalue: Parsed<Lvalue>,
 ) -> Result<Parsed<Stmt>, Failure>
-    requires stands { AtPlace tokens.now budget target.next }
+    requires stands { AtPlace tokens.now budget lvalue.next }
     requires some { 1 ≤ budget }
-    requires low { target.height ≤ name_budget budget }
-    ensures gives { GivesParsed statement_of result (evaluation_from tokens.now budget place (target_of target.tree) target.height target.next) }
+    requires low { lvalue.height ≤ name_budget budget }
+    ensures gives { GivesParsed unit_statement_of result (evaluation_from tokens.now budget place (lvalue_of lvalue.tree) lvalue.height lvalue.next) }
     ensures ends { IfOk result (λ parsed. UpTo tokens.now (budget + 1) parsed.height parsed.next) }
 {
     let budget = name_budget(budget);
-    let next = target.next;
-    let height = height_as_tree(&target.tree, target.height);
-    let tree = target_tree(alloc, target.tree)?;
+    let next = lvalue.next;
+    let height = height_as_tree(&lvalue.tree, lvalue.height);
+    let tree = lvalue_tree(alloc, lvalue.tree)?;
     let left = climb(
         alloc,
         tokens,
@@ -165,7 +171,7 @@ fn print(
 ) -> Result<Parsed<Stmt>, Failure>
     requires stands { AtPlace tokens.now budget place }
     requires more { place + 1 ≤ length tokens.now }
-    ensures gives { GivesParsed statement_of result (print_at tokens.now budget place) }
+    ensures gives { GivesParsed unit_statement_of result (print_at tokens.now budget place) }
     ensures ends { IfOk result (λ parsed. UpTo tokens.now (budget + 1) parsed.height parsed.next) }
 {
     within(2, budget, place)?;
@@ -183,15 +189,15 @@ fn print(
 
 /// An assignment of 1 by `+` or `-`, whose mark stands at a place.
 #[tactic(auto, using(crate::proofs::Budgets::tree_forms))]
-fn stepped(tokens: &[Token], at: usize, op: BinaryOp, target: Target) -> Stmt
-    ensures { statement_of result ≡ assigned (target_of target) (Some op) (line_at tokens.now at) (Literal (pos 1)) }
+fn stepped(tokens: &[Token], at: usize, op: BinaryOp, lvalue: Lvalue) -> Stmt
+    ensures { unit_statement_of result ≡ assigned (lvalue_of lvalue) (Some op) (line_at tokens.now at) (Literal (pos 1)) }
 {
-    let Target {
+    let Lvalue {
         symbol,
         line,
         index,
         bracket,
-    } = target;
+    } = lvalue;
     Stmt::Assign {
         symbol,
         line,
@@ -214,55 +220,86 @@ fn step_before(
 ) -> Result<Parsed<Stmt>, Failure>
     requires stands { AtPlace tokens.now budget place }
     requires more { place + 1 ≤ length tokens.now }
-    ensures gives { GivesParsed statement_of result (step_before tokens.now budget op place) }
+    ensures gives { GivesParsed unit_statement_of result (step_before tokens.now budget op place) }
     ensures ends { IfOk result (λ parsed. UpTo tokens.now (budget + 1) parsed.height parsed.next) }
 {
     within(1, budget, place)?;
-    let target = target(alloc, tokens, budget, place + 1)?;
-    let tree = stepped(tokens, place, op, target.tree);
+    let lvalue = lvalue(alloc, tokens, budget, place + 1)?;
+    let tree = stepped(tokens, place, op, lvalue.tree);
     Ok(Parsed {
         tree,
-        height: target.height + 1,
-        next: target.next,
+        height: lvalue.height + 1,
+        next: lvalue.next,
     })
 }
 
-/// Reads what is assigned to a target.
-#[tactic(auto, using(crate::proofs::Budgets::budgets), unfolding(crate::specs::models::StatementParser::assignment))]
+/// Reads what is assigned to an lvalue: a call, where one may and does stand there, or an expression.
+#[tactic(auto, unfolding(crate::specs::models::StatementParser::assignment, crate::specs::models::CallParser::right_side_at, crate::specs::models::CallParser::value_or_call))]
 fn assignment(
     alloc: Global,
     tokens: &[Token],
+    calls: Calls,
     budget: usize,
-    target: Parsed<Target>,
+    lvalue: Parsed<Lvalue>,
     op: Option<BinaryOp>,
 ) -> Result<Parsed<Stmt>, Failure>
-    requires stands { AtPlace tokens.now budget target.next }
-    requires more { target.next + 1 ≤ length tokens.now }
-    requires low { target.height ≤ name_budget budget }
-    ensures gives { GivesParsed statement_of result (assignment tokens.now budget (target_of target.tree) op target.height target.next) }
+    requires stands { AtPlace tokens.now budget lvalue.next }
+    requires more { lvalue.next + 1 ≤ length tokens.now }
+    requires some { 1 ≤ budget }
+    requires low { lvalue.height ≤ name_budget budget }
+    ensures gives { GivesParsed unit_statement_of result (assignment tokens.now calls budget (lvalue_of lvalue.tree) op lvalue.height lvalue.next) }
     ensures ends { IfOk result (λ parsed. UpTo tokens.now (budget + 1) parsed.height parsed.next) }
 {
-    let at = target.next;
-    within(2, budget, at)?;
-    let value = expression(alloc, tokens, budget - 1, EXPRESSION, at + 1)?;
-    let height = target.height.max(value.height) + 1;
+    let at = lvalue.next;
+    let calls = callable(calls, op, &lvalue.tree);
+    match called_at(tokens, calls, at + 1) {
+        Some(function) => {
+            let target = Target {
+                symbol: lvalue.tree.symbol,
+                line: lvalue.tree.line,
+                declared: false,
+            };
+            call_for(alloc, tokens, budget, target, function, at + 1)
+        }
+        None => assigned(alloc, tokens, calls, budget, lvalue, op),
+    }
+}
+
+/// Reads the expression that is assigned to an lvalue.
+fn assigned(
+    alloc: Global,
+    tokens: &[Token],
+    calls: Calls,
+    budget: usize,
+    lvalue: Parsed<Lvalue>,
+    op: Option<BinaryOp>,
+) -> Result<Parsed<Stmt>, Failure>
+    requires stands { AtPlace tokens.now budget lvalue.next }
+    requires more { lvalue.next + 1 ≤ length tokens.now }
+    requires low { lvalue.height ≤ name_budget budget }
+    ensures gives { GivesParsed unit_statement_of result (after (value_at tokens.now budget (settled_at calls (kind_at tokens.now (lvalue.next + 1)) lvalue.next (lvalue.next + 1)) (lvalue.next + 1)) (assigning tokens.now (lvalue_of lvalue.tree) op lvalue.height lvalue.next)) }
+    ensures ends { IfOk result (λ parsed. UpTo tokens.now (budget + 1) parsed.height parsed.next) }
+{
+    let at = lvalue.next;
+    let value = value(alloc, tokens, calls, budget, at, at + 1)?;
+    let height = lvalue.height.max(value.height) + 1;
     let next = value.next;
     let line = line_at(tokens, at);
-    let tree = assign(target.tree, op, line, value.tree);
+    let tree = assign(lvalue.tree, op, line, value.tree);
     Ok(Parsed { tree, height, next })
 }
 
 /// An assignment, compound where there is an operator.
 #[tactic(auto, using(crate::proofs::Budgets::tree_forms))]
-fn assign(target: Target, op: Option<BinaryOp>, at: u32, value: Expr) -> Stmt
-    ensures { statement_of result ≡ assigned (target_of target) op at (expression_of value) }
+fn assign(lvalue: Lvalue, op: Option<BinaryOp>, at: u32, value: Expr) -> Stmt
+    ensures { unit_statement_of result ≡ assigned (lvalue_of lvalue) op at (expression_of value) }
 {
-    let Target {
+    let Lvalue {
         symbol,
         line,
         index,
         bracket,
-    } = target;
+    } = lvalue;
     Stmt::Assign {
         symbol,
         line,
@@ -274,53 +311,84 @@ fn assign(target: Target, op: Option<BinaryOp>, at: u32, value: Expr) -> Stmt
     }
 }
 
-/// Reads what goes on after a target that is not assigned to: `++` or `--`, or an expression.
-#[tactic(auto, using(crate::proofs::Budgets::budgets), unfolding(crate::specs::models::StatementParser::behind_target))]
-fn behind_target(
+/// Reads what goes on after an lvalue that is not assigned to: `++` or `--`, or an expression.
+#[tactic(auto, using(crate::proofs::Budgets::budgets), unfolding(crate::specs::models::StatementParser::behind_lvalue))]
+fn behind_lvalue(
     alloc: Global,
     tokens: &[Token],
     budget: usize,
     place: usize,
-    target: Parsed<Target>,
+    lvalue: Parsed<Lvalue>,
 ) -> Result<Parsed<Stmt>, Failure>
-    requires stands { AtPlace tokens.now budget target.next }
+    requires stands { AtPlace tokens.now budget lvalue.next }
     requires some { 1 ≤ budget }
-    requires low { target.height ≤ name_budget budget }
-    ensures gives { GivesParsed statement_of result (behind_target tokens.now budget place (target_of target.tree) target.height target.next (step_from (kind_at tokens.now target.next))) }
+    requires low { lvalue.height ≤ name_budget budget }
+    ensures gives { GivesParsed unit_statement_of result (behind_lvalue tokens.now budget place (lvalue_of lvalue.tree) lvalue.height lvalue.next (step_from (kind_at tokens.now lvalue.next))) }
     ensures ends { IfOk result (λ parsed. UpTo tokens.now (budget + 1) parsed.height parsed.next) }
 {
-    let at = target.next;
+    let at = lvalue.next;
     match step_at(tokens, at) {
         Some(op) => {
-            let tree = stepped(tokens, at, op, target.tree);
+            let tree = stepped(tokens, at, op, lvalue.tree);
             Ok(Parsed {
                 tree,
-                height: target.height + 1,
+                height: lvalue.height + 1,
                 next: at + 1,
             })
         }
-        None => evaluation_from(alloc, tokens, budget, place, target),
+        None => evaluation_from(alloc, tokens, budget, place, lvalue),
+    }
+}
+
+/// Reads what goes on after an lvalue: the arguments of a call, where the name may be called, or what is
+/// assigned to it, or the rest of an expression.
+#[tactic(auto, using(crate::proofs::Budgets::budgets), unfolding(crate::specs::models::StatementParser::after_lvalue, crate::specs::models::StatementParser::on_lvalue))]
+fn after_lvalue(
+    alloc: Global,
+    tokens: &[Token],
+    calls: Calls,
+    budget: usize,
+    place: usize,
+    lvalue: Parsed<Lvalue>,
+) -> Result<Parsed<Stmt>, Failure>
+    requires stands { AtPlace tokens.now budget lvalue.next }
+    requires some { 1 ≤ budget }
+    requires low { lvalue.height ≤ name_budget budget }
+    ensures gives { GivesParsed unit_statement_of result (after_lvalue tokens.now calls budget place (lvalue_of lvalue.tree) lvalue.height lvalue.next) }
+    ensures ends { IfOk result (λ parsed. UpTo tokens.now (budget + 1) parsed.height parsed.next) }
+{
+    let at = lvalue.next;
+    if opens_call(tokens, callable(calls, None, &lvalue.tree), at) {
+        let head = CallHead {
+            line: lvalue.tree.line,
+            target: None,
+            function: lvalue.tree.symbol,
+            at: lvalue.tree.line,
+        };
+        return call(alloc, tokens, budget, head, at + 1);
+    }
+    match assignment_at(tokens, at) {
+        Some(op) => assignment(alloc, tokens, calls, budget, lvalue, op),
+        None => behind_lvalue(alloc, tokens, budget, place, lvalue),
     }
 }
 
 /// Reads a statement that a name begins.
-#[tactic(auto, using(crate::proofs::Budgets::budgets), unfolding(crate::specs::models::StatementParser::named, crate::specs::models::StatementParser::on_target))]
+#[tactic(auto, using(crate::proofs::Budgets::budgets), unfolding(crate::specs::models::StatementParser::named))]
 fn named(
     alloc: Global,
     tokens: &[Token],
+    calls: Calls,
     budget: usize,
     place: usize,
 ) -> Result<Parsed<Stmt>, Failure>
     requires { AtPlace tokens.now budget place }
-    ensures gives { GivesParsed statement_of result (named tokens.now budget place) }
+    ensures gives { GivesParsed unit_statement_of result (named tokens.now calls budget place) }
     ensures ends { IfOk result (λ parsed. UpTo tokens.now (budget + 1) parsed.height parsed.next) }
 {
     within(1, budget, place)?;
-    let target = target(alloc, tokens, budget, place)?;
-    match assignment_at(tokens, target.next) {
-        Some(op) => assignment(alloc, tokens, budget, target, op),
-        None => behind_target(alloc, tokens, budget, place, target),
-    }
+    let lvalue = lvalue(alloc, tokens, budget, place)?;
+    after_lvalue(alloc, tokens, calls, budget, place, lvalue)
 }
 
 /// Reads a simple statement. Its height is one above the budget where a lone name is the whole of it
@@ -329,15 +397,16 @@ fn named(
 pub(crate) fn simple(
     alloc: Global,
     tokens: &[Token],
+    calls: Calls,
     budget: usize,
     place: usize,
 ) -> Result<Parsed<Stmt>, Failure>
     requires { AtPlace tokens.now budget place }
-    ensures gives { GivesParsed statement_of result (simple_at tokens.now budget place) }
+    ensures gives { GivesParsed unit_statement_of result (simple_at tokens.now calls budget place) }
     ensures ends { IfOk result (λ parsed. UpTo tokens.now (budget + 1) parsed.height parsed.next) }
 {
     match kind_at(tokens, place) {
-        Some(TokenKind::Name { .. }) => named(alloc, tokens, budget, place),
+        Some(TokenKind::Name { .. }) => named(alloc, tokens, calls, budget, place),
         Some(TokenKind::Number { .. }) => evaluation(alloc, tokens, budget, place),
         Some(TokenKind::Key { key }) => {
             if key == Keyword::Print {

@@ -1,8 +1,10 @@
 ghost use Rattle.std.specs.Prelude.{◌≡◌, ◌+◌, ◌-◌, ◌<◌, ◌≤◌, length, IfOk};
-ghost use Rattle.pc_syntax.specs.Erasure.{expression_of, statement_of, list_of};
+ghost use Rattle.pc_syntax.specs.Erasure.{expression_of};
+ghost use Rattle.pc_syntax.specs.UnitErasure.{unit_statement_of, unit_list_of};
 ghost use Rattle.pc_parser.specs.models.StatementParser.{block_at, items_at, item_at, otherwise_at, branch_at, lone, return_at, ended_at, keyed, started, statement_at, statement_below};
 ghost use Rattle.pc_parser.specs.models.Parsing.{GivesParsed, AtPlace, UpTo, behind};
 
+use crate::calls::Calls;
 use crate::declaration::{declaration, static_declaration};
 use crate::expression::{EXPRESSION, expression};
 use crate::loops::{do_loop, for_loop, while_loop};
@@ -21,19 +23,20 @@ use std::alloc::Global;
 pub(crate) fn statement(
     alloc: Global,
     tokens: &[Token],
+    calls: Calls,
     budget: usize,
     place: usize,
 ) -> Result<Parsed<Stmt>, Failure>
     requires { AtPlace tokens.now budget place }
-    ensures gives { GivesParsed statement_of result (statement_at tokens.now budget place) }
+    ensures gives { GivesParsed unit_statement_of result (statement_at tokens.now calls budget place) }
     ensures ends { IfOk result (λ parsed. UpTo tokens.now budget parsed.height parsed.next) }
 {
     match kind_at(tokens, place) {
-        Some(TokenKind::Key { key }) => keyed(alloc, tokens, budget, key, place),
-        Some(TokenKind::Mark { mark }) => started(alloc, tokens, budget, mark, place),
-        Some(TokenKind::Name { .. }) => ended(alloc, tokens, budget, place),
-        Some(TokenKind::Number { .. }) => ended(alloc, tokens, budget, place),
-        None => ended(alloc, tokens, budget, place),
+        Some(TokenKind::Key { key }) => keyed(alloc, tokens, calls, budget, key, place),
+        Some(TokenKind::Mark { mark }) => started(alloc, tokens, calls, budget, mark, place),
+        Some(TokenKind::Name { .. }) => ended(alloc, tokens, calls, budget, place),
+        Some(TokenKind::Number { .. }) => ended(alloc, tokens, calls, budget, place),
+        None => ended(alloc, tokens, calls, budget, place),
     }
 }
 
@@ -42,14 +45,15 @@ pub(crate) fn statement(
 pub(crate) fn ended(
     alloc: Global,
     tokens: &[Token],
+    calls: Calls,
     budget: usize,
     place: usize,
 ) -> Result<Parsed<Stmt>, Failure>
     requires { AtPlace tokens.now budget place }
-    ensures gives { GivesParsed statement_of result (ended_at tokens.now budget place) }
+    ensures gives { GivesParsed unit_statement_of result (ended_at tokens.now calls budget place) }
     ensures ends { IfOk result (λ parsed. UpTo tokens.now budget parsed.height parsed.next) }
 {
-    let tree = simple(alloc, tokens, budget, place)?;
+    let tree = simple(alloc, tokens, calls, budget, place)?;
     close(tokens, Mark::Semicolon, budget, tree)
 }
 
@@ -59,20 +63,21 @@ pub(crate) fn ended(
 fn keyed(
     alloc: Global,
     tokens: &[Token],
+    calls: Calls,
     budget: usize,
     key: Keyword,
     place: usize,
 ) -> Result<Parsed<Stmt>, Failure>
     requires stands { AtPlace tokens.now budget place }
     requires more { place + 1 ≤ length tokens.now }
-    ensures gives { GivesParsed statement_of result (keyed tokens.now (statement_below tokens.now budget) budget key place) }
+    ensures gives { GivesParsed unit_statement_of result (keyed tokens.now calls (statement_below tokens.now calls budget) budget key place) }
     ensures ends { IfOk result (λ parsed. UpTo tokens.now budget parsed.height parsed.next) }
 {
     match key {
-        Keyword::If => branch(alloc, tokens, budget, place),
-        Keyword::While => while_loop(alloc, tokens, budget, place),
-        Keyword::Do => do_loop(alloc, tokens, budget, place),
-        Keyword::For => for_loop(alloc, tokens, budget, place),
+        Keyword::If => branch(alloc, tokens, calls, budget, place),
+        Keyword::While => while_loop(alloc, tokens, calls, budget, place),
+        Keyword::Do => do_loop(alloc, tokens, calls, budget, place),
+        Keyword::For => for_loop(alloc, tokens, calls, budget, place),
         Keyword::Break => {
             let line = line_at(tokens, place);
             lone(tokens, budget, Stmt::Break { line }, place)
@@ -82,7 +87,7 @@ fn keyed(
             lone(tokens, budget, Stmt::Continue { line }, place)
         }
         Keyword::Return => return_from(alloc, tokens, budget, place),
-        _ => ended(alloc, tokens, budget, place),
+        _ => ended(alloc, tokens, calls, budget, place),
     }
 }
 
@@ -92,18 +97,19 @@ fn keyed(
 fn started(
     alloc: Global,
     tokens: &[Token],
+    calls: Calls,
     budget: usize,
     mark: Mark,
     place: usize,
 ) -> Result<Parsed<Stmt>, Failure>
     requires stands { AtPlace tokens.now budget place }
     requires more { place + 1 ≤ length tokens.now }
-    ensures gives { GivesParsed statement_of result (started tokens.now (statement_below tokens.now budget) budget mark place) }
+    ensures gives { GivesParsed unit_statement_of result (started tokens.now calls (statement_below tokens.now calls budget) budget mark place) }
     ensures ends { IfOk result (λ parsed. UpTo tokens.now budget parsed.height parsed.next) }
 {
     match mark {
         Mark::LeftBrace => {
-            let items = block(alloc, tokens, budget, place)?;
+            let items = block(alloc, tokens, calls, budget, place)?;
             Ok(Parsed {
                 tree: Stmt::Block { items: items.tree },
                 height: items.height,
@@ -118,7 +124,7 @@ fn started(
                 next: place + 1,
             })
         }
-        _ => ended(alloc, tokens, budget, place),
+        _ => ended(alloc, tokens, calls, budget, place),
     }
 }
 
@@ -128,16 +134,17 @@ fn started(
 pub(crate) fn block(
     alloc: Global,
     tokens: &[Token],
+    calls: Calls,
     budget: usize,
     place: usize,
 ) -> Result<Parsed<StmtList>, Failure>
     requires stands { AtPlace tokens.now budget place }
     requires more { place + 1 ≤ length tokens.now }
-    ensures gives { GivesParsed list_of result (block_at tokens.now (statement_below tokens.now budget) budget place) }
+    ensures gives { GivesParsed unit_list_of result (block_at tokens.now calls (statement_below tokens.now calls budget) budget place) }
     ensures ends { IfOk result (λ parsed. UpTo tokens.now budget parsed.height parsed.next) }
 {
     within(1, budget, place)?;
-    let items = items(alloc, tokens, budget, place + 1)?;
+    let items = items(alloc, tokens, calls, budget, place + 1)?;
     Ok(Parsed {
         tree: items.tree,
         height: items.height + 1,
@@ -150,19 +157,20 @@ pub(crate) fn block(
 fn items(
     alloc: Global,
     tokens: &[Token],
+    calls: Calls,
     budget: usize,
     place: usize,
 ) -> Result<Parsed<StmtList>, Failure>
     requires stands { AtPlace tokens.now budget place }
     requires some { 1 ≤ budget }
-    ensures gives { GivesParsed list_of result (items_at tokens.now (statement_below tokens.now budget) budget (length tokens.now + 1) place) }
+    ensures gives { GivesParsed unit_list_of result (items_at tokens.now calls (statement_below tokens.now calls budget) budget (length tokens.now + 1) place) }
     ensures ends { IfOk result (λ parsed. UpTo tokens.now (budget - 1) parsed.height parsed.next) }
 {
     let mut items = Seq::new(alloc);
     let mut height = 0usize;
     let mut next = place;
     while !is_mark(tokens, Mark::RightBrace, next) {
-        let more = item(alloc, tokens, budget, items, next)?;
+        let more = item(alloc, tokens, calls, budget, items, next)?;
         items = more.tree;
         height = height.max(more.height);
         next = more.next;
@@ -181,23 +189,24 @@ fn items(
 fn item(
     alloc: Global,
     tokens: &[Token],
+    calls: Calls,
     budget: usize,
     mut items: StmtList,
     place: usize,
 ) -> Result<Parsed<StmtList>, Failure>
     requires stands { AtPlace tokens.now budget place }
     requires some { 1 ≤ budget }
-    ensures gives { GivesParsed list_of result (behind (list_of items) (item_at tokens.now (statement_below tokens.now budget) budget place)) }
+    ensures gives { GivesParsed unit_list_of result (behind (unit_list_of items) (item_at tokens.now calls (statement_below tokens.now calls budget) budget place)) }
     ensures ends { IfOk result (λ parsed. UpTo tokens.now (budget - 1) parsed.height parsed.next) }
     ensures further { IfOk result (λ parsed. place < parsed.next) }
 {
     if is_key(tokens, Keyword::Int, place) {
-        return declaration(alloc, tokens, budget - 1, items, place);
+        return declaration(alloc, tokens, calls, budget - 1, items, place);
     }
     if is_key(tokens, Keyword::Static, place) {
-        return static_declaration(alloc, tokens, budget - 1, items, place);
+        return static_declaration(alloc, tokens, calls, budget - 1, items, place);
     }
-    let stated = statement(alloc, tokens, budget - 1, place)?;
+    let stated = statement(alloc, tokens, calls, budget - 1, place)?;
     items.push(stated.tree)?;
     Ok(Parsed {
         tree: items,
@@ -212,19 +221,20 @@ fn item(
 fn branch(
     alloc: Global,
     tokens: &[Token],
+    calls: Calls,
     budget: usize,
     place: usize,
 ) -> Result<Parsed<Stmt>, Failure>
     requires stands { AtPlace tokens.now budget place }
     requires more { place + 1 ≤ length tokens.now }
-    ensures gives { GivesParsed statement_of result (branch_at tokens.now (statement_below tokens.now budget) budget place) }
+    ensures gives { GivesParsed unit_statement_of result (branch_at tokens.now (statement_below tokens.now calls budget) budget place) }
     ensures ends { IfOk result (λ parsed. UpTo tokens.now budget parsed.height parsed.next) }
 {
     within(2, budget, place)?;
     let condition = test(alloc, tokens, budget - 1, place + 1)?;
-    let body = statement(alloc, tokens, budget - 1, condition.next)?;
+    let body = statement(alloc, tokens, calls, budget - 1, condition.next)?;
     let line = line_at(tokens, place);
-    otherwise(alloc, tokens, budget, line, condition, body)
+    otherwise(alloc, tokens, calls, budget, line, condition, body)
 }
 
 /// Reads the `else` of an `if`, where it follows.
@@ -233,6 +243,7 @@ fn branch(
 fn otherwise(
     alloc: Global,
     tokens: &[Token],
+    calls: Calls,
     budget: usize,
     line: u32,
     condition: Parsed<Expr>,
@@ -242,8 +253,8 @@ fn otherwise(
     requires some { 1 ≤ budget }
     requires low { condition.height + 1 ≤ budget }
     requires low_body { body.height + 1 ≤ budget }
-    ensures gives { GivesParsed statement_of result (otherwise_at tokens.now (statement_below tokens.now budget) budget line (expression_of condition.tree)
-        (statement_of body.tree) condition.height body.height body.next) }
+    ensures gives { GivesParsed unit_statement_of result (otherwise_at tokens.now (statement_below tokens.now calls budget) budget line (expression_of condition.tree)
+        (unit_statement_of body.tree) condition.height body.height body.next) }
     ensures ends { IfOk result (λ parsed. UpTo tokens.now budget parsed.height parsed.next) }
 {
     let at = body.next;
@@ -256,7 +267,7 @@ fn otherwise(
             next: at,
         });
     }
-    let other = statement(alloc, tokens, budget - 1, at + 1)?;
+    let other = statement(alloc, tokens, calls, budget - 1, at + 1)?;
     let height = condition.height.max(body.height.max(other.height)) + 1;
     let next = other.next;
     let no = Some(other.tree);
@@ -268,7 +279,7 @@ fn otherwise(
 #[tactic(auto, using(crate::proofs::Budgets::budgets), unfolding(crate::specs::models::StatementParser::lone))]
 fn lone(tokens: &[Token], budget: usize, tree: Stmt, place: usize) -> Result<Parsed<Stmt>, Failure>
     requires { AtPlace tokens.now budget place }
-    ensures gives { GivesParsed statement_of result (lone tokens.now (statement_below tokens.now budget) budget (statement_of tree) place) }
+    ensures gives { GivesParsed unit_statement_of result (lone tokens.now budget (unit_statement_of tree) place) }
     ensures ends { IfOk result (λ parsed. UpTo tokens.now budget parsed.height parsed.next) }
 {
     within(1, budget, place)?;
@@ -290,7 +301,7 @@ fn return_from(
 ) -> Result<Parsed<Stmt>, Failure>
     requires stands { AtPlace tokens.now budget place }
     requires more { place + 1 ≤ length tokens.now }
-    ensures gives { GivesParsed statement_of result (return_at tokens.now (statement_below tokens.now budget) budget place) }
+    ensures gives { GivesParsed unit_statement_of result (return_at tokens.now budget place) }
     ensures ends { IfOk result (λ parsed. UpTo tokens.now budget parsed.height parsed.next) }
 {
     within(2, budget, place)?;

@@ -1,6 +1,8 @@
 ghost use Rattle.std.specs.Prelude.{◌≡◌, MatchResult};
-ghost use Rattle.pc_syntax.specs.Source.{Combined, Conjunction, Disjunction, Conditional, Branch, WhileLoop, DoLoop, ForLoop};
-ghost use Rattle.pc_syntax.specs.Erasure.{expression_of, statement_of, list_of, optional_of};
+ghost use Rattle.pc_syntax.specs.Source.{Combined, Conjunction, Disjunction, Conditional};
+ghost use Rattle.pc_syntax.specs.Unit.{If, While, Do, For};
+ghost use Rattle.pc_syntax.specs.Erasure.{expression_of};
+ghost use Rattle.pc_syntax.specs.UnitErasure.{unit_statement_of, unit_list_of, unit_optional_of};
 ghost use Rattle.pc_parser.specs.models.Parsing.{optional_tree};
 ghost use Rattle.pc_parser.specs.Operators.{infixed, prefixed};
 ghost use Rattle.pc_parser.specs.declared.outcome.Failure.TheVariants.{Memory};
@@ -85,7 +87,7 @@ pub(crate) fn prefix(alloc: Global, sign: Option<UnaryOp>, operand: Expr) -> Res
 }
 
 /// An `if`, with the statement of its `else` where it has one.
-#[tactic(auto, using(pc_syntax::proofs::ErasureLaws::statement_forms), unfolding(pc_syntax::specs::Erasure::optional_of))]
+#[tactic(auto, using(pc_syntax::proofs::UnitLaws::unit_forms), unfolding(pc_syntax::specs::UnitErasure::unit_optional_of))]
 pub(crate) fn branch_tree(
     alloc: Global,
     line: u32,
@@ -93,7 +95,7 @@ pub(crate) fn branch_tree(
     yes: Stmt,
     no: Option<Stmt>,
 ) -> Result<Stmt, Failure>
-    ensures { MatchResult result (λ tree. statement_of tree ≡ Branch line (expression_of test) (statement_of yes) (optional_tree no)) (λ failure. failure ≡ Memory) }
+    ensures { MatchResult result (λ tree. unit_statement_of tree ≡ If line (expression_of test) (unit_statement_of yes) (optional_tree no)) (λ failure. failure ≡ Memory) }
 {
     let yes = Box::new(alloc, yes)?;
     match no {
@@ -116,18 +118,18 @@ pub(crate) fn branch_tree(
 }
 
 /// A `while`.
-#[tactic(auto, using(pc_syntax::proofs::ErasureLaws::statement_forms))]
+#[tactic(auto, using(pc_syntax::proofs::UnitLaws::unit_forms))]
 pub(crate) fn while_tree(alloc: Global, line: u32, test: Expr, body: Stmt) -> Result<Stmt, Failure>
-    ensures { MatchResult result (λ tree. statement_of tree ≡ WhileLoop line (expression_of test) (statement_of body)) (λ failure. failure ≡ Memory) }
+    ensures { MatchResult result (λ tree. unit_statement_of tree ≡ While line (expression_of test) (unit_statement_of body)) (λ failure. failure ≡ Memory) }
 {
     let body = Box::new(alloc, body)?;
     Ok(Stmt::While { line, test, body })
 }
 
 /// A `do`.
-#[tactic(auto, using(pc_syntax::proofs::ErasureLaws::statement_forms))]
+#[tactic(auto, using(pc_syntax::proofs::UnitLaws::unit_forms))]
 pub(crate) fn do_tree(alloc: Global, line: u32, body: Stmt, test: Expr) -> Result<Stmt, Failure>
-    ensures { MatchResult result (λ tree. statement_of tree ≡ DoLoop line (statement_of body) (expression_of test)) (λ failure. failure ≡ Memory) }
+    ensures { MatchResult result (λ tree. unit_statement_of tree ≡ Do line (unit_statement_of body) (expression_of test)) (λ failure. failure ≡ Memory) }
 {
     let body = Box::new(alloc, body)?;
     Ok(Stmt::Do { line, body, test })
@@ -143,10 +145,10 @@ pub(crate) struct ForHead {
 }
 
 /// A `for`.
-#[tactic(auto, using(pc_syntax::proofs::ErasureLaws::statement_forms))]
+#[tactic(auto, using(pc_syntax::proofs::UnitLaws::unit_forms))]
 pub(crate) fn for_tree(alloc: Global, head: ForHead, body: Stmt) -> Result<Stmt, Failure>
-    ensures { MatchResult result (λ tree. statement_of tree ≡ ForLoop head.line (list_of head.first) (expression_of head.condition) (optional_of head.step)
-        (statement_of body)) (λ failure. failure ≡ Memory) }
+    ensures { MatchResult result (λ tree. unit_statement_of tree ≡ For head.line (unit_list_of head.first) (expression_of head.condition) (unit_optional_of head.step)
+        (unit_statement_of body)) (λ failure. failure ≡ Memory) }
 {
     let body = Box::new(alloc, body)?;
     let ForHead {

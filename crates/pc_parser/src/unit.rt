@@ -1,19 +1,29 @@
-ghost use Rattle.std.specs.Prelude.{◌≡◌, ℕ, ◌+◌, ◌≤◌, List, length, IfOk, IsErrOf};
+ghost use Rattle.std.specs.Prelude.{◌≡◌, ℕ, true, ◌+◌, ◌≤◌, List, length, IfOk, IsErrOf};
 ghost use Rattle.pc_word.specs.SourceLimits.{most_tokens, most_height};
+ghost use Rattle.pc_lexer.specs.Laws.{AreInOrder, symbols_in};
 ghost use Rattle.pc_lexer.specs.declared.token.Token.{Token as TokenValue};
 ghost use Rattle.pc_syntax.specs.Source.{SourceProgram};
-ghost use Rattle.pc_syntax.specs.Erasure.{program_of, list_of};
+ghost use Rattle.pc_syntax.specs.Erasure.{program_of};
+ghost use Rattle.pc_syntax.specs.UnitErasure.{unit_list_of, unit_of};
+ghost use Rattle.pc_syntax.specs.Unit.{TranslationUnit};
+ghost use Rattle.pc_syntax.specs.Proper.{unit_is_proper};
+ghost use Rattle.pc_syntax.specs.Plain.{HasNoCalls, plain_unit};
 ghost use Rattle.pc_parser.specs.Statements.{ReadsProgram};
-ghost use Rattle.pc_parser.specs.models.StatementParser.{main_block, program_at};
+ghost use Rattle.pc_parser.specs.Units.{ReadsUnit, HasNamesBelow};
+ghost use Rattle.pc_parser.specs.models.UnitParser.{unit_at};
+ghost use Rattle.pc_parser.specs.models.StatementParser.{main_block, main_at, program_at};
 ghost use Rattle.pc_parser.specs.models.Parsing.{GivesParsed, AtPlace};
 ghost use Rattle.pc_parser.specs.Parse.{IsReadWithin, NothingReads, NothingReadsWithin, IsPlaceOfLine, RefusesTokens, error_line};
+ghost use Rattle.pc_parser.specs.Parse.{IsUnitReadWithin, NothingReadsUnit, NothingReadsUnitWithin, RefusesUnit};
 ghost use Rattle.pc_parser.specs.models.Parsing.{FailsInside, located};
 
+use crate::calls::Calls;
+use crate::function::source_unit;
 use crate::outcome::{Failure, Parsed};
 use crate::place::{expect, expect_key, is_key, kind_at};
 use crate::statement::block;
 use pc_lexer::{Keyword, Mark, Token, TokenList};
-use pc_syntax::{Program, StmtList};
+use pc_syntax::{Program, SourceUnit, StmtList};
 use pc_word::MOST_HEIGHT;
 use std::alloc::Global;
 use thiserror::Error;
@@ -41,14 +51,38 @@ pub fn parse(alloc: Global, tokens: &TokenList) -> Result<Program, ParseError>
     requires { length tokens.now ≤ most_tokens }
     // What is given is what the grammar relates to the tokens.
     ensures read { IfOk result (λ program. IsReadWithin most_height tokens.now (program_of program)) }
+    // It has no calls, so this says all of it.
+    ensures plain { IfOk result (λ program. HasNoCalls program) }
     // A refusal, other than for want of memory, comes only where there is no such program.
     ensures refused { RefusesTokens result → (program : SourceProgram) → IsReadWithin most_height tokens.now program → ⊥ }
     // Where it comes, and why: whatever stands after the place, nothing reads it.
     ensures syntax { (at line : ℕ) → IsErrOf result (ParseError.Syntax at line) → IsPlaceOfLine tokens.now at line × NothingReads tokens.now at }
     ensures too_nested { (at line : ℕ) → IsErrOf result (ParseError.TooNested at line) → IsPlaceOfLine tokens.now at line × NothingReadsWithin most_height tokens.now at × (250 ≤ at) }
 {
-    match translation_unit(alloc, tokens.as_slice()) {
+    match program(alloc, tokens.as_slice()) {
         Ok(parsed) => Ok(Program { items: parsed.tree }),
+        Err(failure) => Err(located(tokens.as_slice(), failure)),
+    }
+}
+
+/// The translation unit that the grammar reads in the tokens: functions (C17 6.9.1) before `main`, and calls
+/// of them (C17 6.5.2.2) as statements, as the right side of `=` to a scalar and as the initialiser of a
+/// scalar. Its height, which is that of the highest block, is at most 256; the arguments of a call count as
+/// expressions of its statement. A `return` that is the last item of a function's block is its result.
+pub fn parse_unit(alloc: Global, tokens: &TokenList) -> Result<SourceUnit, ParseError>
+    requires { length tokens.now ≤ most_tokens }
+    // What is given is what the grammar relates to the tokens.
+    ensures read { IfOk result (λ source. IsUnitReadWithin most_height tokens.now (unit_of source)) }
+    // Its declarators stand in lists, and its symbols are below each bound below which those of the tokens are.
+    ensures proper { (base : ℕ) → HasNamesBelow base tokens.now → IfOk result (λ source. unit_is_proper base (unit_of source) ≡ true) }
+    // A refusal, other than for want of memory, comes only where there is no such unit.
+    ensures refused { RefusesUnit result → (unit : TranslationUnit) → IsUnitReadWithin most_height tokens.now unit → ⊥ }
+    // Where it comes, and why: whatever stands after the place, nothing reads it.
+    ensures syntax { (at line : ℕ) → IsErrOf result (ParseError.Syntax at line) → IsPlaceOfLine tokens.now at line × NothingReadsUnit tokens.now at }
+    ensures too_nested { (at line : ℕ) → IsErrOf result (ParseError.TooNested at line) → IsPlaceOfLine tokens.now at line × NothingReadsUnitWithin most_height tokens.now at × (250 ≤ at) }
+{
+    match source_unit(alloc, tokens.as_slice()) {
+        Ok(parsed) => Ok(parsed.tree),
         Err(failure) => Err(located(tokens.as_slice(), failure)),
     }
 }
@@ -86,30 +120,50 @@ fn error_line(tokens: &[Token], at: usize) -> u32
 }
 
 /// Reads the program that the tokens are.
-#[tactic(auto, using(crate::proofs::Budgets::budgets), unfolding(crate::specs::models::StatementParser::program_at))]
-fn translation_unit(alloc: Global, tokens: &[Token]) -> Result<Parsed<StmtList>, Failure>
+#[tactic(auto, unfolding(crate::specs::models::StatementParser::program_at))]
+fn program(alloc: Global, tokens: &[Token]) -> Result<Parsed<StmtList>, Failure>
     requires { length tokens.now ≤ most_tokens }
-    ensures { GivesParsed list_of result (program_at tokens.now most_height) }
+    ensures { GivesParsed unit_list_of result (program_at tokens.now most_height) }
 {
     expect_key(tokens, Keyword::Int, 0)?;
-    expect_key(tokens, Keyword::Main, 1)?;
-    expect(tokens, Mark::LeftParen, 2)?;
-    if is_key(tokens, Keyword::Void, 3) {
-        return main_block(alloc, tokens, 4);
+    main_at(alloc, tokens, Calls::Refused, 1)
+}
+
+/// Reads the `main` at a place, with nothing after it.
+#[tactic(auto, using(crate::proofs::Budgets::budgets), unfolding(crate::specs::models::StatementParser::main_at))]
+pub(crate) fn main_at(
+    alloc: Global,
+    tokens: &[Token],
+    calls: Calls,
+    place: usize,
+) -> Result<Parsed<StmtList>, Failure>
+    requires few { length tokens.now ≤ most_tokens }
+    requires inside { place ≤ length tokens.now }
+    ensures { GivesParsed unit_list_of result (main_at tokens.now calls most_height place) }
+{
+    expect_key(tokens, Keyword::Main, place)?;
+    expect(tokens, Mark::LeftParen, place + 1)?;
+    if is_key(tokens, Keyword::Void, place + 2) {
+        return main_block(alloc, tokens, calls, place + 3);
     }
-    main_block(alloc, tokens, 3)
+    main_block(alloc, tokens, calls, place + 2)
 }
 
 /// Reads the block of `main`, after its parentheses, with nothing after it.
 #[tactic(auto, using(crate::proofs::Budgets::budgets), unfolding(crate::specs::models::StatementParser::main_block, crate::specs::models::StatementParser::nothing_behind))]
-fn main_block(alloc: Global, tokens: &[Token], place: usize) -> Result<Parsed<StmtList>, Failure>
+fn main_block(
+    alloc: Global,
+    tokens: &[Token],
+    calls: Calls,
+    place: usize,
+) -> Result<Parsed<StmtList>, Failure>
     requires few { length tokens.now ≤ most_tokens }
     requires inside { place ≤ length tokens.now }
-    ensures { GivesParsed list_of result (main_block tokens.now most_height place) }
+    ensures { GivesParsed unit_list_of result (main_block tokens.now calls most_height place) }
 {
     expect(tokens, Mark::RightParen, place)?;
     expect(tokens, Mark::LeftBrace, place + 1)?;
-    let items = block(alloc, tokens, MOST_HEIGHT, place + 1)?;
+    let items = block(alloc, tokens, calls, MOST_HEIGHT, place + 1)?;
     match kind_at(tokens, items.next) {
         None => Ok(items),
         Some(_) => Err(Failure::Syntax { at: items.next }),
@@ -119,4 +173,19 @@ fn main_block(alloc: Global, tokens: &[Token], place: usize) -> Result<Parsed<St
 /// At most one program reads given tokens, and it has one height.
 pub fn one_program()
     ensures { (tokens : List TokenValue) (one other : SourceProgram) (height raised : ℕ) → ReadsProgram tokens one height → ReadsProgram tokens other raised → (one ≡ other) × (height ≡ raised) }
+{}
+
+/// At most one unit reads given tokens, and it has one height.
+pub fn one_unit()
+    ensures { (tokens : List TokenValue) (one other : TranslationUnit) (height raised : ℕ) → ReadsUnit tokens one height → ReadsUnit tokens other raised → (one ≡ other) × (height ≡ raised) }
+{}
+
+/// A program is read as a unit without functions, of the same height.
+pub fn program_is_unit()
+    ensures { (tokens : List TokenValue) (program : SourceProgram) (height : ℕ) → ReadsProgram tokens program height → ReadsUnit tokens (plain_unit program) height }
+{}
+
+/// The symbols that the lexer gives are below the number of tokens.
+pub fn names_are_below()
+    ensures { (base : ℕ) (tokens : List TokenValue) → AreInOrder 0 (symbols_in tokens) → length tokens ≤ base → HasNamesBelow base tokens }
 {}

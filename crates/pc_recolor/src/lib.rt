@@ -1,6 +1,7 @@
 //! Registers chosen anew over the rows of a code, which is tightened then.
 #![tactic(auto)]
 
+mod chains;
 mod checking;
 mod choice;
 mod homes;
@@ -25,5 +26,5 @@ mod witness;
 pub use checking::is_renaming;
 pub use kept::Kept;
 pub use laws::laws_of_renaming;
-pub use recoloring::recolor_and_tighten;
+pub use recoloring::{is_refused, recolor_and_tighten};
 pub use witness::{Holding, RowWitness};

@@ -152,12 +152,16 @@ impl Painting {
     fn told(&self, alloc: Global, row: u32, origin: u32) -> Result<RowWitness, AllocError> {
         let mut needed = self.live.of_row(row);
         let mut held = Vec::new(alloc);
-        for register in 0..=u8::MAX {
-            if needed.least() == Some(register as u32) {
-                let place = self.place(self.live.node(row, register as u32));
-                held.push(Holding { register, place })?;
-                needed = needed.without(register as u32);
-            }
+        for _register in 0..=u8::MAX {
+            let Some(least) = needed.least() else {
+                break;
+            };
+            let Ok(register) = u8::try_from(least) else {
+                break;
+            };
+            let place = self.place(self.live.node(row, least));
+            held.push(Holding { register, place })?;
+            needed = needed.without(least);
         }
         Ok(RowWitness {
             origin,
@@ -230,6 +234,7 @@ fn no_places(alloc: Global, count: u32) -> Result<Vec<u8>, AllocError> {
 
 /// Merges the webs of copies, row by row, of the rows that stand in loops, or of those that do not.
 fn merge_all(
+    alloc: Global,
     webs: &mut Webs,
     live: &Liveness,
     sets: &mut NodeSets,
@@ -240,28 +245,42 @@ fn merge_all(
     for tree in &phased.rows {
         let within = phased.loops.get(row as usize).copied().unwrap_or(None);
         if within.is_some() == in_loops {
-            webs.merge_copies(live, sets, row, tree)?;
+            webs.merge_copies(alloc, live, sets, row, tree)?;
         }
         row = row.wrapping_add(1);
     }
     Ok(())
 }
 
-/// Rows that do these with other registers, of so many, in which the values of a copy share one wherever
-/// they may; `None` where there are too few registers.
-///
-/// Webs of values are merged as in the coalescing of Chaitin (1982), and take registers by first fit.
-pub(crate) fn painted_rows(
-    alloc: Global,
-    registers: u16,
-    phased: &Phased,
-) -> Result<Option<Made>, OutOfMemory> {
+/// What the rows need, and its webs, of which those of a copy are one wherever they may.
+#[derive(Drop)]
+pub(crate) struct Merged {
+    pub(crate) live: Liveness,
+    pub(crate) sets: NodeSets,
+    webs: Webs,
+}
+
+/// The webs of rows, with those of copies merged as in the coalescing of Chaitin (1982).
+pub(crate) fn merged_webs(alloc: Global, phased: &Phased) -> Result<Merged, OutOfMemory> {
     let rows = phased.rows.as_slice();
     let live = liveness_of(alloc, rows)?;
     let mut sets = node_sets(alloc, &live, rows)?;
     let mut webs = Webs::of(alloc, &live, &sets, rows)?;
-    merge_all(&mut webs, &live, &mut sets, phased, true)?;
-    merge_all(&mut webs, &live, &mut sets, phased, false)?;
+    merge_all(alloc, &mut webs, &live, &mut sets, phased, true)?;
+    merge_all(alloc, &mut webs, &live, &mut sets, phased, false)?;
+    Ok(Merged { live, sets, webs })
+}
+
+/// Rows that do these with other registers, of so many, in which each web has one; `None` where there are too few
+/// registers. They are taken by first fit.
+pub(crate) fn painted_rows(
+    alloc: Global,
+    registers: u16,
+    phased: &Phased,
+    merged: Merged,
+) -> Result<Option<Made>, OutOfMemory> {
+    let rows = phased.rows.as_slice();
+    let Merged { live, sets, webs } = merged;
     let mut taken = no_sets(alloc, rows)?;
     let mut places = no_places(alloc, live.count())?;
     if !webs.colour(alloc, &mut taken, &mut places, registers)? {

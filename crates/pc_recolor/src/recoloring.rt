@@ -5,13 +5,14 @@ ghost use Rattle.pc_machine.specs.WellFormed.{WellFormed};
 ghost use Rattle.pc_recolor.specs.Recolored.{IsRecolored, IsRecoloredAndTightened};
 ghost use Rattle.pc_recolor.specs.models.Recoloring.{AreAnew, with_rows};
 
+use crate::chains::phases_called_for;
 use crate::checking::is_renaming;
-use crate::choice::{Choice, one_phase};
+use crate::choice::{Choice, most_phases, one_phase};
 use crate::knots::Knots;
 use crate::loops::Loops;
 use crate::naming::are_named_in_order;
 use crate::pace::{Cover, Paces};
-use crate::painting::{Made, painted_rows};
+use crate::painting::{Made, Merged, merged_webs, painted_rows};
 use crate::phases::{MOST_PHASES, Phased, in_phases};
 use crate::size::fit;
 use crate::tails::Tails;
@@ -40,10 +41,11 @@ fn rows_anew(
     most: usize,
     rows: &[Tree],
     phased: &Phased,
+    merged: Merged,
 ) -> Result<Option<TreeList>, OutOfMemory>
     ensures { IfOk result (λ found. IfSome found (λ after. AreAnew registers most (rows_of rows.now) (rows_of after))) }
 {
-    match painted_rows(alloc, registers, phased)? {
+    match painted_rows(alloc, registers, phased, merged)? {
         Some(made) => {
             if is_made(registers, most, rows, &made) {
                 let Made { rows, told } = made;
@@ -90,10 +92,18 @@ fn recolored(
     code: &Code,
     most: usize,
     phased: &Phased,
+    merged: Merged,
 ) -> Result<Option<Code>, OutOfMemory>
     ensures { IfOk result (λ found. IfSome found (λ after. IsRecolored most (code_of code.now) (code_of after))) }
 {
-    match rows_anew(alloc, code.registers, most, code.rows.as_slice(), phased)? {
+    match rows_anew(
+        alloc,
+        code.registers,
+        most,
+        code.rows.as_slice(),
+        phased,
+        merged,
+    )? {
         Some(rows) => {
             let after = with_rows(alloc, code, rows)?;
             Ok(Some(after))
@@ -105,6 +115,17 @@ fn recolored(
 /// No phases are tried with which the rows of a code times the phases are more than this, so that a long code does not
 /// take many times as long.
 const MOST_ROWS: usize = 1024;
+
+/// The most phases that are tried in a code of so many rows.
+fn most_phases_of(rows: usize) -> u8 {
+    let mut most = 1;
+    for phases in 2..=MOST_PHASES {
+        if rows.saturating_mul(phases as usize) <= MOST_ROWS {
+            most = phases;
+        }
+    }
+    most
+}
 
 /// What the rows of a code lead to, and the loops among them.
 #[derive(Drop)]
@@ -134,6 +155,8 @@ struct Tried {
     knots: Knots,
     /// How many rows of copies each loop keeps.
     kept: Vec<u32>,
+    /// How many phases each loop calls for.
+    called_for: Vec<u8>,
 }
 
 /// The code with other registers, each loop in so many phases, and tightened, if it could be had.
@@ -155,7 +178,9 @@ fn attempt(
         &shape.tails,
         phases,
     )?;
-    match recolored(alloc, code, most, &phased)? {
+    let merged = merged_webs(alloc, &phased)?;
+    let called_for = phases_called_for(alloc, shape.loops.count(), &phased, &merged)?;
+    match recolored(alloc, code, most, &phased, merged)? {
         Some(between) => {
             let cover = Cover::of(alloc, &phased)?;
             let code = tighten(alloc, between)?;
@@ -166,6 +191,7 @@ fn attempt(
                 cover,
                 knots,
                 kept,
+                called_for,
             }))
         }
         None => Ok(None),
@@ -186,17 +212,21 @@ fn best(
     let Some(first) = attempt(alloc, code, most, shape, &ones)? else {
         return Ok(None);
     };
-    let mut choice = Choice::of_one_phase(alloc, &first.kept)?;
+    let most_tried = most_phases_of(code.rows.len());
+    let mut choice = Choice::of_one_phase(alloc, &first.kept, &first.called_for, most_tried)?;
     let mut best = first;
-    for phases in 2..=MOST_PHASES {
-        if choice.is_settled() || MOST_ROWS / (phases as usize) < code.rows.len() {
+    for _turn in 2..=MOST_PHASES {
+        let trial = choice.trial(alloc)?;
+        if choice.is_settled() || most_phases(&trial) > most_tried {
             break;
         }
-        let trial = choice.trial(alloc, phases)?;
         let Some(found) = attempt(alloc, code, most, shape, &trial)? else {
+            if choice.lowers() {
+                continue;
+            }
             break;
         };
-        if choice.learns(phases, &found.kept) {
+        if choice.learns(&trial, &found.kept) {
             best = found;
         }
     }
@@ -260,5 +290,29 @@ pub fn recolor_and_tighten(alloc: Global, code: Code, most: usize) -> Result<Cod
             }
         }
         None => Ok(other),
+    }
+}
+
+/// Whether the checker refuses the rows that are made of a code's with each loop in so many phases, of which there are at
+/// most 8. Nothing is known of which it does: where it did, `recolor_and_tighten` would leave the code the registers that
+/// it has. `false` too where the registers do not suffice, so that nothing is made.
+///
+/// `Memory` is the only error.
+pub fn is_refused(alloc: Global, code: &Code, phases: u8) -> Result<bool, OutOfMemory> {
+    let rows = code.rows.as_slice();
+    let shape = shape_of(alloc, rows)?;
+    let mut trial = Vec::new(alloc);
+    for _number in 0..shape.loops.count() {
+        trial.push(phases.min(MOST_PHASES))?;
+    }
+    let phased = in_phases(alloc, rows, &shape.loops, &shape.tails, &trial)?;
+    let merged = merged_webs(alloc, &phased)?;
+    match painted_rows(alloc, code.registers, &phased, merged)? {
+        Some(made) => {
+            let after = made.rows.as_slice();
+            let does = is_renaming(code.registers, &made.told, rows, after);
+            Ok(!does || !are_named_in_order(after))
+        }
+        None => Ok(false),
     }
 }

@@ -93,13 +93,26 @@ fn are_found_nowhere(points: &[u32], among: &[u32]) -> bool {
     true
 }
 
-/// The points of two webs, in order.
-fn merged(mut one: Vec<u32>, other: &[u32]) -> Result<Web, AllocError> {
+/// The points of two webs that share none, in order.
+fn merged(alloc: Global, one: &[u32], other: &[u32]) -> Result<Web, AllocError> {
+    let mut points = Vec::new(alloc);
+    let mut at: usize = 0;
     for point in other {
-        one.push(*point)?;
+        for _earlier in at..one.len() {
+            match one.get(at) {
+                Some(first) if first < point => {
+                    points.push(*first)?;
+                    at = at.wrapping_add(1);
+                }
+                _ => break,
+            }
+        }
+        points.push(*point)?;
     }
-    one.sort_unstable();
-    Ok(Web { points: one })
+    for point in one.iter().skip(at) {
+        points.push(*point)?;
+    }
+    Ok(Web { points })
 }
 
 /// How many leaves a tree has.
@@ -246,7 +259,7 @@ impl Webs {
 
     /// Makes one web of those of two nodes that are the least of their sets, if they share no point;
     /// whether they are one then.
-    fn merge(&mut self, one: u32, other: u32) -> Result<bool, OutOfMemory> {
+    fn merge(&mut self, alloc: Global, one: u32, other: u32) -> Result<bool, OutOfMemory> {
         let (Some(first), Some(second)) = (self.id(one), self.id(other)) else {
             return Ok(false);
         };
@@ -261,7 +274,7 @@ impl Webs {
             return Ok(false);
         }
         let other_taken = self.webs.take(second);
-        let web = merged(taken.points, &other_taken.points)?;
+        let web = merged(alloc, &taken.points, &other_taken.points)?;
         self.webs.reserve(1)?;
         let id = self.webs.put(web);
         self.stand(one.max(other), None);
@@ -279,10 +292,16 @@ impl Webs {
     }
 
     /// Makes the two sets of a copy one, if their webs share no point.
-    fn merge_copy(&mut self, sets: &mut NodeSets, made: u32, from: u32) -> Result<(), OutOfMemory> {
+    fn merge_copy(
+        &mut self,
+        alloc: Global,
+        sets: &mut NodeSets,
+        made: u32,
+        from: u32,
+    ) -> Result<(), OutOfMemory> {
         let one = sets.least(made);
         let other = sets.least(from);
-        if one != other && self.merge(one, other)? {
+        if one != other && self.merge(alloc, one, other)? {
             sets.join(one, other);
         }
         Ok(())
@@ -291,6 +310,7 @@ impl Webs {
     /// Merges the webs of each copy of a row, or of what is left of one.
     pub(crate) fn merge_copies(
         &mut self,
+        alloc: Global,
         live: &Liveness,
         sets: &mut NodeSets,
         row: u32,
@@ -304,14 +324,14 @@ impl Webs {
                 } = item
                 {
                     if let Some(made) = node_below(live, next, *dest) {
-                        self.merge_copy(sets, made, live.node(row, *from))?;
+                        self.merge_copy(alloc, sets, made, live.node(row, *from))?;
                     }
                 }
-                self.merge_copies(live, sets, row, next)
+                self.merge_copies(alloc, live, sets, row, next)
             }
             RowTree::Test { yes, no, .. } => {
-                self.merge_copies(live, sets, row, yes)?;
-                self.merge_copies(live, sets, row, no)
+                self.merge_copies(alloc, live, sets, row, yes)?;
+                self.merge_copies(alloc, live, sets, row, no)
             }
             RowTree::Leaf { .. } => Ok(()),
         }

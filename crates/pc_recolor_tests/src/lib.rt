@@ -5,3 +5,5 @@
 mod arena;
 #[cfg(test)]
 mod recolor;
+#[cfg(test)]
+mod refusals;

@@ -52,6 +52,12 @@ line_fault_text at_line.TooManyArrays = codes "too many arrays"
 line_fault_text at_line.TooManyElements = codes "too many elements"
 line_fault_text at_line.TooManyValues = codes "too many values"
 line_fault_text at_line.ExpressionTooDeep = codes "expression too deep"
+line_fault_text at_line.FunctionTwice = codes "function twice"
+line_fault_text at_line.EarlyReturn = codes "early return"
+line_fault_text at_line.ArrayInFunction = codes "array in function"
+line_fault_text at_line.LooseJump = codes "jump outside a loop"
+line_fault_text at_line.NoFunction = codes "no such function"
+line_fault_text at_line.WrongArguments = codes "wrong number of arguments"
 
 -- what is wrong with a source
 abbrev pub source_fault_text : SourceFault → List ℕ
@@ -59,6 +65,8 @@ source_fault_text source.TooLong = codes "longer than 1048576 bytes"
 source_fault_text (source.BadByte offset) = codes "bad byte at offset " ++ decimal offset
 source_fault_text source.TooManyTokens = codes "too many tokens"
 source_fault_text (source.TooLarge number) = codes "too large: " ++ (decimal number ++ codes " nodes")
+source_fault_text source.InlinedTooBig = codes "inlined program too big"
+source_fault_text source.InlinedTooHigh = codes "inlined program too high"
 source_fault_text (source.AtLine what at) = line_fault_text what ++ (codes " at line " ++ decimal at)
 
 -- the name of a flaw of a field

@@ -39,6 +39,12 @@ impl fmt::Display for LineFault {
             LineFault::TooManyElements => "too many elements",
             LineFault::TooManyValues => "too many values",
             LineFault::ExpressionTooDeep => "expression too deep",
+            LineFault::FunctionTwice => "function twice",
+            LineFault::EarlyReturn => "early return",
+            LineFault::ArrayInFunction => "array in function",
+            LineFault::LooseJump => "jump outside a loop",
+            LineFault::NoFunction => "no such function",
+            LineFault::WrongArguments => "wrong number of arguments",
         })
     }
 }
@@ -52,6 +58,8 @@ impl fmt::Display for SourceFault {
             SourceFault::BadByte { offset } => write!(f, "bad byte at offset {offset}"),
             SourceFault::TooManyTokens => f.write_str("too many tokens"),
             SourceFault::TooLarge { number } => write!(f, "too large: {number} nodes"),
+            SourceFault::InlinedTooBig => f.write_str("inlined program too big"),
+            SourceFault::InlinedTooHigh => f.write_str("inlined program too high"),
             SourceFault::AtLine { what, line } => write!(f, "{what} at line {line}"),
         }
     }

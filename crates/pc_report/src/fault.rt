@@ -55,6 +55,11 @@ pub enum SourceFault {
     TooManyTokens,
     /// Its flow graph would have this number of nodes, which is more than 16,384.
     TooLarge { number: u32 },
+    /// With its calls written out it would have more than 65,536 statements, or more than 262,144 nodes of
+    /// expressions.
+    InlinedTooBig,
+    /// With its calls written out it would be nested more than 256 deep.
+    InlinedTooHigh,
     /// A fault that has a line, counted from 1.
     AtLine { what: LineFault, line: u32 },
 }
@@ -92,6 +97,18 @@ pub enum LineFault {
     TooManyValues,
     /// An expression needs more than 32 temporaries.
     ExpressionTooDeep,
+    /// A function has the name of an earlier one.
+    FunctionTwice,
+    /// A `return` of a function is not the last item of its block.
+    EarlyReturn,
+    /// A function declares an array.
+    ArrayInFunction,
+    /// A `break` or `continue` stands in no loop of its function.
+    LooseJump,
+    /// What is called is no function that was completed before.
+    NoFunction,
+    /// A call has more arguments than the function has parameters, or fewer.
+    WrongArguments,
 }
 
 /// Why an object is refused. Offsets are those of bytes, counted from 0.

@@ -8,7 +8,8 @@ use Rattle.pc_syntax.specs.declared.operator.BinaryOp.{BinaryOp}
 use Rattle.pc_syntax.specs.declared.constant.Const.{Const}
 use Rattle.pc_syntax.specs.declared.expression.Expr.{Expr, Lit, Name, Read, Element, Unary, Binary, Both, Either, Choose}
 use Rattle.pc_syntax.specs.declared.statement.Stmt.{Stmt, Block, Scalar, Array, Assign, Print, Eval, If, While, Do, For, Break, Continue, Return}
-use Rattle.pc_syntax.specs.declared.statement.Stmt.{Empty, Row_of-Stmt, end_of-Stmt, more_of-Stmt, items-the_row-Stmt, items_hidden-the_row-Stmt-0}
+use Rattle.pc_syntax.specs.declared.unit.Target.{Target}
+use Rattle.pc_syntax.specs.declared.statement.Stmt.{Empty, Call, Row_of-Stmt, end_of-Stmt, more_of-Stmt, items-the_row-Stmt, items_hidden-the_row-Stmt-0}
 use Rattle.pc_syntax.specs.declared.statement.Stmt.TheBlock.{hidden-the_row-Stmt-0}
 use Rattle.pc_syntax.specs.Source.{SourceList, Literal, Variable, Input, Indexed, Prefixed, Combined, Conjunction, Disjunction, Conditional, Scope}
 use Rattle.pc_syntax.specs.Source.{ScalarDeclaration, ArrayDeclaration, Assignment, Printing, Evaluation, Branch, WhileLoop, DoLoop, ForLoop}
@@ -139,6 +140,11 @@ module _ (s : Stmt) where
   unfolding statement_of
   statement_of-Empty is = ap statement_of is
 
+  pub statement_of-Call : (line : ℕ) (target : Option Target) (function at : ℕ) (arguments : List Expr) →
+      s ≡ Call line target function at arguments → statement_of s ≡ Nothing
+  unfolding statement_of
+  statement_of-Call line target function at arguments is = ap statement_of is
+
 -- the same of a tree as it is made
 pub expression_of-made_Lit : (value : ℤ) → expression_of (Lit value) ≡ Literal value
 expression_of-made_Lit value = expression_of-Lit (Lit value) value refl
@@ -214,6 +220,10 @@ statement_of-made_Return line value = statement_of-Return (Return line value) li
 pub statement_of-made_Empty : statement_of Empty ≡ Nothing
 statement_of-made_Empty = statement_of-Empty Empty refl
 
+pub statement_of-made_Call : (line : ℕ) (target : Option Target) (function at : ℕ) (arguments : List Expr) →
+    statement_of (Call line target function at arguments) ≡ Nothing
+statement_of-made_Call line target function at arguments = statement_of-Call (Call line target function at arguments) line target function at arguments refl
+
 -- an optional tree
 pub optional_of-None : (held : Option (Box Stmt Global)) → held ≡ None → optional_of held ≡ Absent
 unfolding optional_of
@@ -286,6 +296,7 @@ pub ruleset statement_forms = (
   statement_of-made_Continue,
   statement_of-made_Return,
   statement_of-made_Empty,
+  statement_of-made_Call,
   statement_of-Block,
   statement_of-Scalar,
   statement_of-Array,
@@ -300,6 +311,7 @@ pub ruleset statement_forms = (
   statement_of-Continue,
   statement_of-Return,
   statement_of-Empty,
+  statement_of-Call,
   optional_of-None,
   optional_of-Some,
   optional_of-made_None,

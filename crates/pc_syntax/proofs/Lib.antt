@@ -1,3 +1,5 @@
 mod Copies
 pub mod ErasureLaws
 pub mod SourceLists
+pub mod UnitLaws
+pub mod WithoutCalls

@@ -3,7 +3,7 @@ use Rattle.std.specs.Prelude.{Option, Some, None, option_map, List, [], ◌∷�
 use Rattle.std.specs.declared.boxed.Box.{Box}
 use Rattle.std.specs.declared.alloc.Global.{Global}
 use Rattle.pc_syntax.specs.declared.expression.Expr.{Expr, Lit, Name, Read, Element', Unary', Binary', Both', Either', Choose'}
-use Rattle.pc_syntax.specs.declared.statement.Stmt.{Stmt, Block', Scalar, Array, Assign, Print, Eval, If', While', Do', For', Break, Continue, Return, Empty}
+use Rattle.pc_syntax.specs.declared.statement.Stmt.{Stmt, Block', Scalar, Array, Assign, Print, Eval, If', While', Do', For', Break, Continue, Return, Empty, Call}
 use Rattle.pc_syntax.specs.declared.statement.Stmt.{Row_of-Stmt, end_of-Stmt, more_of-Stmt, Held-Stmt-If-3, None', Some'}
 use Rattle.pc_syntax.specs.declared.program.Program.{Program}
 use Rattle.pc_syntax.specs.Source.{SourceExpression, Literal, Variable, Input, Indexed, Prefixed, Combined, Conjunction, Disjunction, Conditional}
@@ -24,7 +24,7 @@ expression_of (Either' p left q right) = Disjunction (expression_of left) (expre
 expression_of (Choose' p test q one r other) = Conditional (expression_of test) (expression_of one) (expression_of other)
 
 unfoldable mutual
-  -- the statement that a tree stands for
+  -- the statement that a tree without calls stands for; a call, which such a tree has not, stands for `;`
   pub statement_of : Stmt → SourceStatement
   statement_of (Block' n items) = Scope (row_of items)
   statement_of (Scalar symbol line init) = ScalarDeclaration symbol line (option_map expression_of init)
@@ -42,6 +42,7 @@ unfoldable mutual
   statement_of (Continue line) = ContinueOn line
   statement_of (Return line value) = ReturnFrom line (expression_of value)
   statement_of Empty = Nothing
+  statement_of (Call line target function at arguments) = Nothing
 
   -- the statements of a list that a tree holds
   pub row_of : {m : _} → Row_of-Stmt m → SourceList

@@ -1,10 +1,11 @@
-ghost use Rattle.std.specs.Prelude.{◌≡◌, true, IfOk, option_map};
+ghost use Rattle.std.specs.Prelude.{◌≡◌, true, IfOk, option_map, map};
 ghost use Rattle.pc_syntax.specs.Source.{Variable, Indexed};
 ghost use Rattle.pc_syntax.specs.models.Parts.{is_combined};
 ghost use Rattle.pc_syntax.specs.Erasure.{expression_of};
 
 use crate::operator::{BinaryOp, UnaryOp};
 use crate::program::SyntaxError;
+use pc_word::Seq;
 use std::alloc::Global;
 
 /// An expression.
@@ -58,6 +59,9 @@ pub enum Expr {
         no: Box<Expr>,
     },
 }
+
+/// Expressions in order.
+pub type ExprList = Seq<Expr>;
 
 /// An equal expression, in memory of its own.
 #[cycle(copy_expression)]
@@ -178,4 +182,16 @@ pub(crate) fn copy_optional(alloc: Global, from: &Option<Expr>) -> Result<Option
             Ok(Some(copy))
         }
     }
+}
+
+/// Equal expressions, in a list of their own.
+pub(crate) fn copy_expressions(alloc: Global, from: &ExprList) -> Result<ExprList, SyntaxError>
+    ensures { IfOk result (λ copy. map expression_of copy ≡ map expression_of from.now) }
+{
+    let mut copies = Seq::new(alloc);
+    for item in from.as_slice() {
+        let copy = copy_expression(alloc, item)?;
+        copies.push(copy)?;
+    }
+    Ok(copies)
 }

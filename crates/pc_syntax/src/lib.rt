@@ -6,9 +6,11 @@ mod expression;
 mod operator;
 mod program;
 mod statement;
+mod unit;
 
 pub use constant::{Const, ConstList};
-pub use expression::Expr;
+pub use expression::{Expr, ExprList};
 pub use operator::{BinaryOp, UnaryOp};
 pub use program::{Program, SyntaxError};
 pub use statement::{Stmt, StmtList};
+pub use unit::{Function, FunctionList, Param, ParamList, SourceUnit, Target};

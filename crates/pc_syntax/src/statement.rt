@@ -1,12 +1,14 @@
-ghost use Rattle.std.specs.Prelude.{◌≡◌, true, IfOk, option_map};
-ghost use Rattle.pc_syntax.specs.Source.{ScalarDeclaration, ArrayDeclaration, Assignment, Branch, WhileLoop, DoLoop, ForLoop};
-ghost use Rattle.pc_syntax.specs.Erasure.{expression_of, statement_of, list_of, optional_of};
+ghost use Rattle.std.specs.Prelude.{◌≡◌, true, IfOk, option_map, map};
+ghost use Rattle.pc_syntax.specs.Unit.{Scalar, Array, Assign, If, While, Do, For, Call};
+ghost use Rattle.pc_syntax.specs.Erasure.{expression_of};
+ghost use Rattle.pc_syntax.specs.UnitErasure.{unit_statement_of, unit_list_of, unit_optional_of};
 ghost use Rattle.pc_syntax.specs.models.Parts.{is_simple};
 
 use crate::constant::ConstList;
-use crate::expression::{Expr, copy_expression, copy_optional};
+use crate::expression::{Expr, ExprList, copy_expression, copy_expressions, copy_optional};
 use crate::operator::BinaryOp;
 use crate::program::SyntaxError;
+use crate::unit::Target;
 use pc_word::Seq;
 use std::alloc::Global;
 
@@ -97,13 +99,22 @@ pub enum Stmt {
     },
     /// A lone `;`.
     Empty,
+    /// A call of a function, as a statement of its own, as the right side of an assignment to a scalar, or
+    /// as the initialiser of a scalar. `function` is the symbol of the called name, and `at` its line.
+    Call {
+        line: u32,
+        target: Option<Target>,
+        function: u32,
+        at: u32,
+        args: ExprList,
+    },
 }
 
 /// An equal statement, in memory of its own.
 #[cycle(copy_statement)]
-#[tactic(auto, using(crate::proofs::ErasureLaws::statement_forms))]
+#[tactic(auto, using(crate::proofs::UnitLaws::unit_forms))]
 fn copy_statement(alloc: Global, from: &Stmt) -> Result<Stmt, SyntaxError>
-    ensures { IfOk result (λ copy. statement_of copy ≡ statement_of from.now) }
+    ensures { IfOk result (λ copy. unit_statement_of copy ≡ unit_statement_of from.now) }
 {
     match from {
         Stmt::Block { items } => {
@@ -135,14 +146,15 @@ fn copy_statement(alloc: Global, from: &Stmt) -> Result<Stmt, SyntaxError>
         Stmt::Scalar { .. } | Stmt::Array { .. } | Stmt::Assign { .. } => copy_simple(alloc, from),
         Stmt::Print { .. } | Stmt::Eval { .. } | Stmt::Return { .. } => copy_simple(alloc, from),
         Stmt::Break { .. } | Stmt::Continue { .. } | Stmt::Empty => copy_simple(alloc, from),
+        Stmt::Call { .. } => copy_simple(alloc, from),
     }
 }
 
 /// An equal statement, of one that holds no others.
-#[tactic(auto, using(crate::proofs::ErasureLaws::statement_forms))]
+#[tactic(auto, using(crate::proofs::UnitLaws::unit_forms))]
 fn copy_simple(alloc: Global, from: &Stmt) -> Result<Stmt, SyntaxError>
-    requires { is_simple (statement_of from.now) ≡ true }
-    ensures { IfOk result (λ copy. statement_of copy ≡ statement_of from.now) }
+    requires { is_simple (unit_statement_of from.now) ≡ true }
+    ensures { IfOk result (λ copy. unit_statement_of copy ≡ unit_statement_of from.now) }
 {
     match from {
         Stmt::Scalar { symbol, line, init } => copy_scalar(alloc, *symbol, *line, init),
@@ -177,28 +189,35 @@ fn copy_simple(alloc: Global, from: &Stmt) -> Result<Stmt, SyntaxError>
             Ok(Stmt::Return { line: *line, value })
         }
         Stmt::Empty => Ok(Stmt::Empty),
+        Stmt::Call {
+            line,
+            target,
+            function,
+            at,
+            args,
+        } => copy_call(alloc, *line, *target, *function, *at, args),
         Stmt::Block { .. } | Stmt::If { .. } => unreachable!(),
         Stmt::While { .. } | Stmt::Do { .. } | Stmt::For { .. } => unreachable!(),
     }
 }
 
 /// The declarator of a scalar, with a copy of its initialiser.
-#[tactic(auto, using(crate::proofs::ErasureLaws::statement_forms))]
+#[tactic(auto, using(crate::proofs::UnitLaws::unit_forms))]
 fn copy_scalar(
     alloc: Global,
     symbol: u32,
     line: u32,
     init: &Option<Expr>,
 ) -> Result<Stmt, SyntaxError>
-    ensures { IfOk result (λ copy. statement_of copy
-        ≡ ScalarDeclaration symbol line (option_map expression_of init.now)) }
+    ensures { IfOk result (λ copy. unit_statement_of copy
+        ≡ Scalar symbol line (option_map expression_of init.now)) }
 {
     let init = copy_optional(alloc, init)?;
     Ok(Stmt::Scalar { symbol, line, init })
 }
 
 /// The declarator of an array, with a copy of its values.
-#[tactic(auto, using(crate::proofs::ErasureLaws::statement_forms))]
+#[tactic(auto, using(crate::proofs::UnitLaws::unit_forms))]
 fn copy_array(
     alloc: Global,
     symbol: u32,
@@ -207,7 +226,7 @@ fn copy_array(
     length: u32,
     values: &ConstList,
 ) -> Result<Stmt, SyntaxError>
-    ensures { IfOk result (λ copy. statement_of copy ≡ ArrayDeclaration symbol line at length values.now) }
+    ensures { IfOk result (λ copy. unit_statement_of copy ≡ Array symbol line at length values.now) }
 {
     let values = Seq::from_slice(alloc, values.as_slice())?;
     Ok(Stmt::Array {
@@ -220,7 +239,7 @@ fn copy_array(
 }
 
 /// An assignment, with copies of its index and its value.
-#[tactic(auto, using(crate::proofs::ErasureLaws::statement_forms))]
+#[tactic(auto, using(crate::proofs::UnitLaws::unit_forms))]
 fn copy_assignment(
     alloc: Global,
     symbol: u32,
@@ -231,8 +250,8 @@ fn copy_assignment(
     at: u32,
     value: &Expr,
 ) -> Result<Stmt, SyntaxError>
-    ensures { IfOk result (λ copy. statement_of copy
-        ≡ Assignment symbol line (option_map expression_of index.now) bracket op at
+    ensures { IfOk result (λ copy. unit_statement_of copy
+        ≡ Assign symbol line (option_map expression_of index.now) bracket op at
         (expression_of value.now)) }
 {
     let index = copy_optional(alloc, index)?;
@@ -248,9 +267,31 @@ fn copy_assignment(
     })
 }
 
+/// A call, with copies of its arguments.
+#[tactic(auto, using(crate::proofs::UnitLaws::unit_forms))]
+fn copy_call(
+    alloc: Global,
+    line: u32,
+    target: Option<Target>,
+    function: u32,
+    at: u32,
+    args: &ExprList,
+) -> Result<Stmt, SyntaxError>
+    ensures { IfOk result (λ copy. unit_statement_of copy ≡ Call line target function at (map expression_of args.now)) }
+{
+    let args = copy_expressions(alloc, args)?;
+    Ok(Stmt::Call {
+        line,
+        target,
+        function,
+        at,
+        args,
+    })
+}
+
 /// An `if` with this `else`, and copies of its condition and its body.
 #[cycle(copy_statement)]
-#[tactic(auto, using(crate::proofs::ErasureLaws::statement_forms))]
+#[tactic(auto, using(crate::proofs::UnitLaws::unit_forms))]
 fn copy_if(
     alloc: Global,
     yes: &Stmt,
@@ -258,8 +299,8 @@ fn copy_if(
     test: &Expr,
     no: Option<Box<Stmt>>,
 ) -> Result<Stmt, SyntaxError>
-    ensures { IfOk result (λ copy. statement_of copy
-        ≡ Branch line (expression_of test.now) (statement_of yes.now) (optional_of no)) }
+    ensures { IfOk result (λ copy. unit_statement_of copy
+        ≡ If line (expression_of test.now) (unit_statement_of yes.now) (unit_optional_of no)) }
 {
     let test = copy_expression(alloc, test)?;
     let yes = copy_boxed(alloc, yes)?;
@@ -273,10 +314,10 @@ fn copy_if(
 
 /// A `while`, with copies of its condition and its body.
 #[cycle(copy_statement)]
-#[tactic(auto, using(crate::proofs::ErasureLaws::statement_forms))]
+#[tactic(auto, using(crate::proofs::UnitLaws::unit_forms))]
 fn copy_while(alloc: Global, body: &Stmt, line: u32, test: &Expr) -> Result<Stmt, SyntaxError>
-    ensures { IfOk result (λ copy. statement_of copy
-        ≡ WhileLoop line (expression_of test.now) (statement_of body.now)) }
+    ensures { IfOk result (λ copy. unit_statement_of copy
+        ≡ While line (expression_of test.now) (unit_statement_of body.now)) }
 {
     let test = copy_expression(alloc, test)?;
     let body = copy_boxed(alloc, body)?;
@@ -285,10 +326,10 @@ fn copy_while(alloc: Global, body: &Stmt, line: u32, test: &Expr) -> Result<Stmt
 
 /// A `do`, with copies of its body and its condition.
 #[cycle(copy_statement)]
-#[tactic(auto, using(crate::proofs::ErasureLaws::statement_forms))]
+#[tactic(auto, using(crate::proofs::UnitLaws::unit_forms))]
 fn copy_do(alloc: Global, body: &Stmt, line: u32, test: &Expr) -> Result<Stmt, SyntaxError>
-    ensures { IfOk result (λ copy. statement_of copy
-        ≡ DoLoop line (statement_of body.now) (expression_of test.now)) }
+    ensures { IfOk result (λ copy. unit_statement_of copy
+        ≡ Do line (unit_statement_of body.now) (expression_of test.now)) }
 {
     let body = copy_boxed(alloc, body)?;
     let test = copy_expression(alloc, test)?;
@@ -297,7 +338,7 @@ fn copy_do(alloc: Global, body: &Stmt, line: u32, test: &Expr) -> Result<Stmt, S
 
 /// A `for` with this first part and this step, and copies of its condition and its body.
 #[cycle(copy_statement)]
-#[tactic(auto, using(crate::proofs::ErasureLaws::statement_forms))]
+#[tactic(auto, using(crate::proofs::UnitLaws::unit_forms))]
 fn copy_for(
     alloc: Global,
     body: &Stmt,
@@ -306,9 +347,9 @@ fn copy_for(
     test: &Expr,
     step: Option<Box<Stmt>>,
 ) -> Result<Stmt, SyntaxError>
-    ensures { IfOk result (λ copy. statement_of copy
-        ≡ ForLoop line (list_of first) (expression_of test.now) (optional_of step)
-        (statement_of body.now)) }
+    ensures { IfOk result (λ copy. unit_statement_of copy
+        ≡ For line (unit_list_of first) (expression_of test.now) (unit_optional_of step)
+        (unit_statement_of body.now)) }
 {
     let test = copy_expression(alloc, test)?;
     let body = copy_boxed(alloc, body)?;
@@ -323,9 +364,9 @@ fn copy_for(
 
 /// An equal statement, in a box of its own.
 #[cycle(copy_statement)]
-#[tactic(auto, using(crate::proofs::ErasureLaws::statement_forms))]
+#[tactic(auto, using(crate::proofs::UnitLaws::unit_forms))]
 fn copy_boxed(alloc: Global, from: &Stmt) -> Result<Box<Stmt>, SyntaxError>
-    ensures { IfOk result (λ copy. statement_of copy.value ≡ statement_of from.now) }
+    ensures { IfOk result (λ copy. unit_statement_of copy.value ≡ unit_statement_of from.now) }
 {
     let copy = copy_statement(alloc, from)?;
     Ok(Box::new(alloc, copy)?)
@@ -333,9 +374,9 @@ fn copy_boxed(alloc: Global, from: &Stmt) -> Result<Box<Stmt>, SyntaxError>
 
 /// An equal statement in a box of its own, where there is one.
 #[cycle(copy_statement)]
-#[tactic(auto, using(crate::proofs::ErasureLaws::statement_forms))]
+#[tactic(auto, using(crate::proofs::UnitLaws::unit_forms))]
 fn copy_held(alloc: Global, from: &Option<Box<Stmt>>) -> Result<Option<Box<Stmt>>, SyntaxError>
-    ensures { IfOk result (λ copy. optional_of copy ≡ optional_of from.now) }
+    ensures { IfOk result (λ copy. unit_optional_of copy ≡ unit_optional_of from.now) }
 {
     match from {
         None => Ok(None),
@@ -348,9 +389,9 @@ fn copy_held(alloc: Global, from: &Option<Box<Stmt>>) -> Result<Option<Box<Stmt>
 
 /// Equal statements, in a list of their own.
 #[cycle(copy_statement)]
-#[tactic(auto, using(crate::proofs::ErasureLaws::statement_forms))]
+#[tactic(auto, using(crate::proofs::UnitLaws::unit_forms))]
 pub(crate) fn copy_list(alloc: Global, from: &StmtList) -> Result<StmtList, SyntaxError>
-    ensures { IfOk result (λ copy. list_of copy ≡ list_of from.now) }
+    ensures { IfOk result (λ copy. unit_list_of copy ≡ unit_list_of from.now) }
 {
     let mut copies = Seq::new(alloc);
     for item in from.as_slice() {

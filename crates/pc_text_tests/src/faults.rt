@@ -141,7 +141,7 @@ static PROFILER: [(ToolFault<'static>, &str); 5] = [
     ),
 ];
 
-static SOURCES: [(SourceFault, &str); 4] = [
+static SOURCES: [(SourceFault, &str); 6] = [
     (
         SourceFault::TooLong,
         "pcc: source: longer than 1048576 bytes\n",
@@ -155,10 +155,18 @@ static SOURCES: [(SourceFault, &str); 4] = [
         SourceFault::TooLarge { number: 16_387 },
         "pcc: source: too large: 16387 nodes\n",
     ),
+    (
+        SourceFault::InlinedTooBig,
+        "pcc: source: inlined program too big\n",
+    ),
+    (
+        SourceFault::InlinedTooHigh,
+        "pcc: source: inlined program too high\n",
+    ),
 ];
 
 /// At line 66.
-static LINE_FAULTS: [(LineFault, &str); 15] = [
+static LINE_FAULTS: [(LineFault, &str); 21] = [
     (
         LineFault::BadLiteral,
         "pcc: source: bad literal at line 66\n",
@@ -212,6 +220,30 @@ static LINE_FAULTS: [(LineFault, &str); 15] = [
     (
         LineFault::ExpressionTooDeep,
         "pcc: source: expression too deep at line 66\n",
+    ),
+    (
+        LineFault::FunctionTwice,
+        "pcc: source: function twice at line 66\n",
+    ),
+    (
+        LineFault::EarlyReturn,
+        "pcc: source: early return at line 66\n",
+    ),
+    (
+        LineFault::ArrayInFunction,
+        "pcc: source: array in function at line 66\n",
+    ),
+    (
+        LineFault::LooseJump,
+        "pcc: source: jump outside a loop at line 66\n",
+    ),
+    (
+        LineFault::NoFunction,
+        "pcc: source: no such function at line 66\n",
+    ),
+    (
+        LineFault::WrongArguments,
+        "pcc: source: wrong number of arguments at line 66\n",
     ),
 ];
 

@@ -1,5 +1,5 @@
--- What moves, which end in a compact code, and removals after them give.
-use Rattle.std.proofs.Common.{◌≡◌, ℕ, List, sym, subst, refl}
+-- What removals, moves that end in a compact code, and removals after them give.
+use Rattle.std.proofs.Common.{◌≡◌, List, sym, subst, refl}
 use Rattle.pc_word.specs.declared.item.Limits.{Limits}
 use Rattle.pc_word.specs.declared.row_tree.RowTree.{RowTree}
 use Rattle.pc_machine.specs.declared.tree.Leaf.{Leaf}
@@ -12,12 +12,13 @@ use Rattle.pc_tighten.specs.Tightened.{ByMoves, Tightens, EachIsReachable, IsTig
 use Rattle.pc_tighten.specs.models.Gotos.{AreRemoved, AreTightened}
 use Rattle.pc_tighten.specs.models.Raising.{code_with, IsRaised}
 use Rattle.pc_tighten.proofs.Sizes.{tightening_takes_no_more_room}
-use Rattle.pc_tighten.proofs.Tightened.{moves_keep_reachable, tightening_keeps_form, tightening_is_no_slower, tightening_keeps_reachable, tightening_keeps}
+use Rattle.pc_tighten.proofs.Tightened.{moves_keep_reachable, removals_keep_reachable, tightening_keeps_form, tightening_is_no_slower, tightening_keeps_reachable, tightening_keeps}
 
-is_tightened : {code after : RowCode} → WellFormed code → Tightens code after → (EachIsReachable code.rows → Compact after) → HasNoGotoAlone after.rows
-    → IsTightened code after
-is_tightened well steps compact none_left = record {
+is_tightened : {code after : RowCode} → WellFormed code → (steps : Tightens code after) → HasNoGotoAlone steps.first.rows → (EachIsReachable code.rows → Compact after)
+    → HasNoGotoAlone after.rows → IsTightened code after
+is_tightened well steps first_none compact none_left = record {
   tightens = steps;
+  first_no_goto_alone = first_none;
   form = tightening_keeps_form steps well;
   limits = tightening_keeps (λ (c : RowCode). c.limits) (λ c rows. refl) steps;
   registers = tightening_keeps (λ (c : RowCode). c.registers) (λ c rows. refl) steps;
@@ -35,21 +36,36 @@ pub rows_raised : (limits : Limits) (before old new left : List CodeRow) → IsR
 rows_raised limits before old new left raised e d =
     subst (λ (rows : List CodeRow). IsRaised limits before rows) (sym d) (subst (λ (rows : List CodeRow). IsRaised limits rows new) e raised)
 
--- and then rows go
-pub rows_tightened : (limits : Limits) (before between after : List CodeRow) → IsRaised limits before between → AreRemoved between after → AreTightened limits before after
-rows_tightened limits before between after raised removed = record { between = between; raised = raised; removed = removed }
+-- rows of a list go, also as they stand in another one
+pub rows_gone : (before old new : List CodeRow) → AreRemoved old new → old ≡ before → AreRemoved before new
+rows_gone before old new removed e = subst (λ (rows : List CodeRow). AreRemoved rows new) e removed
 
-pub ruleset in_order = (rows_raised, rows_tightened)
+-- rows go, then items go up, and then rows go
+pub rows_tightened : (limits : Limits) (before first between after : List CodeRow) → AreRemoved before first → IsRaised limits first between → AreRemoved between after
+    → AreTightened limits before after
+rows_tightened limits before first between after gone raised removed =
+    record { first = first; between = between; first_removed = gone; raised = raised; removed = removed }
+
+pub ruleset in_order = (rows_raised, rows_gone, rows_tightened)
 
 -- what the code is then
 pub code_tightened : (limits : Limits) (like : RowCode) (before after left : List (RowTree Leaf)) → AreTightened limits (rows_of before) (rows_of left) → after ≡ left
     → WellFormed (code_with limits like (rows_of before)) → IsTightened (code_with limits like (rows_of before)) (code_with limits like (rows_of after))
 code_tightened limits like before after left tight same well =
     subst (λ (rows : List (RowTree Leaf)). IsTightened (code_with limits like (rows_of before)) (code_with limits like (rows_of rows))) (sym same)
-    (is_tightened well (record { between = code_with limits like tight.between; moves = up; removals = down.removals })
-    (λ all. down.compact (moves_keep_reachable up all) (tight.raised.compact like)) tight.removed.none_left)
+    (is_tightened well (record {
+      first = code_with limits like tight.first;
+      between = code_with limits like tight.between;
+      first_removals = gone.removals;
+      moves = up;
+      removals = down.removals;
+    }) tight.first_removed.none_left
+    (λ all. down.compact (moves_keep_reachable up (removals_keep_reachable gone.removals all)) (tight.raised.compact like)) tight.removed.none_left)
   where
-    up : ByMoves (code_with limits like (rows_of before)) (code_with limits like tight.between)
+    gone : Shrinks (code_with limits like (rows_of before)) (code_with limits like tight.first)
+    gone = tight.first_removed.shrink limits like
+
+    up : ByMoves (code_with limits like tight.first) (code_with limits like tight.between)
     up = tight.raised.moves_up like
 
     down : Shrinks (code_with limits like tight.between) (code_with limits like (rows_of left))

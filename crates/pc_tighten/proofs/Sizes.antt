@@ -134,6 +134,7 @@ module _ (room : Room) where
   -- both together
   pub tightening_takes_no_more_room : {code after : RowCode} → Tightens code after → rows_room room after.rows ≤ rows_room room code.rows
   tightening_takes_no_more_room steps =
-      let a = moves_take_no_more_room steps.moves in
-      let b = removals_take_no_more_room steps.removals in
+      let a = removals_take_no_more_room steps.first_removals in
+      let b = moves_take_no_more_room steps.moves in
+      let c = removals_take_no_more_room steps.removals in
       omega arith

@@ -94,20 +94,24 @@ removals_keep : {A : Type 0} (part : RowCode → A) → OfNoRow part → {code a
 removals_keep part same No_removal = refl
 removals_keep part same {code} (Removal t u may more) = removals_keep part same more ∙ same code (removed code t u).rows
 
--- ---- removals after moves
+-- ---- removals, moves, and removals after them
 
 pub tightening_keeps_form : {code after : RowCode} → Tightens code after → WellFormed code → WellFormed after
-tightening_keeps_form steps well = removals_keep_form steps.removals (moves_keep_form steps.moves well)
+tightening_keeps_form steps well = removals_keep_form steps.removals (moves_keep_form steps.moves (removals_keep_form steps.first_removals well))
 
 pub tightening_is_no_slower : {code after : RowCode} → Tightens code after → WellFormed code → (input : List ℤ) → NeverFaults (machine_run code input)
     → IsNoSlower (machine_run code input) (machine_run after input)
 tightening_is_no_slower {code} {after} steps well input never =
-    no_slower-trans (machine_run code input) (machine_run steps.between input) (machine_run after input)
-    (moves_are_no_slower steps.moves well input never) (removals_are_no_slower steps.removals input)
+    let first = removals_are_no_slower steps.first_removals input in
+    let first_never = never_faulting (machine_run code input) (machine_run steps.first input) first.agree never in
+    no_slower-trans (machine_run code input) (machine_run steps.first input) (machine_run after input) first
+    (no_slower-trans (machine_run steps.first input) (machine_run steps.between input) (machine_run after input)
+    (moves_are_no_slower steps.moves (removals_keep_form steps.first_removals well) input first_never) (removals_are_no_slower steps.removals input))
 
 pub tightening_keeps_reachable : {code after : RowCode} → Tightens code after → EachIsReachable code.rows → EachIsReachable after.rows
-tightening_keeps_reachable steps all = removals_keep_reachable steps.removals (moves_keep_reachable steps.moves all)
+tightening_keeps_reachable steps all =
+    removals_keep_reachable steps.removals (moves_keep_reachable steps.moves (removals_keep_reachable steps.first_removals all))
 
 -- all but the rows is as before
 pub tightening_keeps : {A : Type 0} (part : RowCode → A) → OfNoRow part → {code after : RowCode} → Tightens code after → part after ≡ part code
-tightening_keeps part same steps = removals_keep part same steps.removals ∙ moves_keep part same steps.moves
+tightening_keeps part same steps = removals_keep part same steps.removals ∙ moves_keep part same steps.moves ∙ removals_keep part same steps.first_removals

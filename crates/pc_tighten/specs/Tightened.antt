@@ -23,10 +23,12 @@ pub data ByRemovals : RowCode → RowCode → Type 0 where
   No_removal : {code : RowCode} → ByRemovals code code
   Removal : {code after : RowCode} (t u : ℕ) → IsGotoAlone code.rows t u → ByRemovals (removed code t u) after → ByRemovals code after
 
--- one code comes from another by moves alone, and then by removals alone
+-- one code comes from another by removals alone, then by moves alone, and then by removals alone
 pub record Tightens (code after : RowCode) : Type 0 where
+  pub first : RowCode
   pub between : RowCode
-  pub moves : ByMoves code between
+  pub first_removals : ByRemovals code first
+  pub moves : ByMoves first between
   pub removals : ByRemovals between after
 
 -- each row is row 0, or leaves lead to it from row 0
@@ -35,8 +37,10 @@ EachIsReachable rows = (i : ℕ) (row : CodeRow) → slice_get rows i ≡ Some r
 
 -- the code after the tightening of a code
 pub record IsTightened (before after : RowCode) : Type 0 where
-  -- first items move, and then rows are removed
+  -- first rows are removed, then items move, and then rows are removed that they leave empty
   pub tightens : Tightens before after
+  -- no item moves before each row is removed that is a goto alone: none comes to stand in such a row
+  pub first_no_goto_alone : HasNoGotoAlone tightens.first.rows
   pub form : WellFormed after
   pub limits : after.limits ≡ before.limits
   pub registers : after.registers ≡ before.registers

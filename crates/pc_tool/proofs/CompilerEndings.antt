@@ -5,7 +5,7 @@ use Rattle.std.specs.Prelude.{IsSome}
 use Rattle.std.specs.Borrow.{Bor}
 use Rattle.std.specs.Io.KnownBytes.{Appends}
 use Rattle.pc_word.specs.Count.{Rose}
-use Rattle.pc_syntax.specs.Source.{SourceProgram}
+use Rattle.pc_syntax.specs.Unit.{TranslationUnit}
 use Rattle.pc_flow.specs.FlowGraph.{FlowGraph}
 use Rattle.pc_table.specs.StoredTable.{table_of}
 use Rattle.pc_machine.specs.MachineCode.{row_of}
@@ -43,7 +43,7 @@ use Rattle.pc_tool.proofs.Files.{has_holds, same_keeps}
 rose_later : (one two three : ℕ) → one ≤ two → Rose two three → Rose one three
 rose_later one two three le rose = omega (arith, le, rose)
 
-module _ (Scheduled : CompileRequest → SourceProgram → CodeWithNotes → Type 0) (passes : List PassCount) (request : CompileRequest)
+module _ (Scheduled : CompileRequest → TranslationUnit → CodeWithNotes → Type 0) (passes : List PassCount) (request : CompileRequest)
     (old mid new : Shelved) (out out_now : Streamed) (keeps : ReadKeeps old mid) where
   keeps_behind : ReadKeeps mid new → ReadKeeps old new
   keeps_behind later = record {
@@ -65,8 +65,8 @@ module _ (Scheduled : CompileRequest → SourceProgram → CodeWithNotes → Typ
   differs_behind : (name : List ℕ) → OnlyFileDiffers mid.held new.held name → OnlyFileDiffers old.held new.held name
   differs_behind name h = subst (λ (held : Option Files). OnlyFileDiffers held new.held name) keeps.held h
 
-  compiled_behind : (program : SourceProgram) (object : CodeWithNotes) → WritesObject Scheduled request program object mid new → WritesObject Scheduled request program object old new
-  compiled_behind program object it = record {
+  compiled_behind : (unit : TranslationUnit) (object : CodeWithNotes) → WritesObject Scheduled request unit object mid new → WritesObject Scheduled request unit object old new
+  compiled_behind unit object it = record {
     text = it.text;
     in_source = subst (λ (held : Option Files). HasSource held request.source it.text) keeps.held it.in_source;
     translates = it.translates;
@@ -77,16 +77,16 @@ module _ (Scheduled : CompileRequest → SourceProgram → CodeWithNotes → Typ
   lacks_behind : CompilerLacks Scheduled passes mid new out out_now (Some request) → CompilerLacks Scheduled passes old new out out_now (Some request)
   lacks_behind (Early later same) = Early (keeps_behind later) same
   lacks_behind (Writing source differs same) = Writing (holds_behind IsSomeSource source) (differs_behind request.object differs) same
-  lacks_behind (Reporting {program} {object} asked it sent) = Reporting asked (compiled_behind program object it) sent
+  lacks_behind (Reporting {unit} {object} asked it sent) = Reporting asked (compiled_behind unit object it) sent
 
   -- what a command comes to after a read, it comes to from before it
   same_end : (due : Option ToolFault) → CompilerEnds Scheduled passes mid new out out_now (Some request) due → CompilerEnds Scheduled passes old new out out_now (Some request) due
-  same_end due (Done {program} {object} it sent) = Done (compiled_behind program object it) sent
+  same_end due (Done {unit} {object} it sent) = Done (compiled_behind unit object it) sent
   same_end due (Unread {name} is later fault same) = Unread is (keeps_behind later) (read_fault_behind name.now fault) same
   same_end due (Refused {what} later source same) = Refused (keeps_behind later) (holds_behind (λ text. HasFault text what) source) same
   same_end due (Unwritten {name} is source differs fault same) =
       Unwritten is (holds_behind IsSomeSource source) (differs_behind name.now differs) (write_fault_behind name.now fault) same
-  same_end due (Unreported {program} {object} asked it rose part) = Unreported asked (compiled_behind program object it) rose part
+  same_end due (Unreported {unit} {object} asked it rose part) = Unreported asked (compiled_behind unit object it) rose part
   same_end due (Lacking lacks) = Lacking (lacks_behind lacks)
 
 -- how it ended after a read, with what it answered
@@ -132,19 +132,19 @@ module _ (Passed : FlowGraph → FlowGraph → Type 0) (passes : List PassCount)
   object = object_of it.compiled.object
 
   is_source : HoldsSource old.held request.source IsSomeSource
-  is_source = has_holds old.held request.source has.text IsSomeSource has.in_source (has.is.program, has.is.translates.source)
+  is_source = has_holds old.held request.source has.text IsSomeSource has.in_source (has.is.unit, has.is.translates.source)
 
   -- as what is handed out, or as some such
-  as_handed : IsScheduledAs Passed (Some it.compiled) request has.is.program object
+  as_handed : IsScheduledAs Passed (Some it.compiled) request has.is.unit object
   unfolding IsScheduledAs
   as_handed = (refl, has.is.compiled)
 
-  as_some : IsScheduledAs Passed None request has.is.program object
+  as_some : IsScheduledAs Passed None request has.is.unit object
   unfolding IsScheduledAs
   as_some = record { flow = it.compiled.flow; table = table_of it.compiled.table; choices = it.compiled.choices; compiled = has.is.compiled }
 
-  compiled : (Scheduled : CompileRequest → SourceProgram → CodeWithNotes → Type 0) → Scheduled request has.is.program object
-      → HoldsFile old.held new.held request.object it.bytes.items → WritesObject Scheduled request has.is.program object old new
+  compiled : (Scheduled : CompileRequest → TranslationUnit → CodeWithNotes → Type 0) → Scheduled request has.is.unit object
+      → HoldsFile old.held new.held request.object it.bytes.items → WritesObject Scheduled request has.is.unit object old new
   compiled Scheduled scheduled written = record {
     text = has.text;
     in_source = has.in_source;
@@ -153,10 +153,10 @@ module _ (Passed : FlowGraph → FlowGraph → Type 0) (passes : List PassCount)
     scheduled = scheduled;
   }
 
-  same_report : reported it.compiled passes ≡ report_on has.is.program object passes
+  same_report : reported it.compiled passes ≡ report_on has.is.unit object passes
   same_report = rw (has.is.nodes, length-map it.compiled.object.code.rows row_of) refl
 
-  same_lines : report_lines (reported it.compiled passes) ≡ report_lines (report_on has.is.program object passes)
+  same_lines : report_lines (reported it.compiled passes) ≡ report_lines (report_on has.is.unit object passes)
   same_lines = ap report_lines same_report
 
   -- it was written, and nothing is due
@@ -172,7 +172,7 @@ module _ (Passed : FlowGraph → FlowGraph → Type 0) (passes : List PassCount)
   reports_part why written (Broken_off asked rose part) =
       Unreported asked (compiled _ as_some written) rose (subst (λ text. AppendsPart out.told out_now.told text) same_lines part)
   reports_part why written (Unmade asked same) =
-      Lacking (Reporting asked (compiled _ as_some written) (sends_none out out_now (report_lines (report_on has.is.program object passes)) same))
+      Lacking (Reporting asked (compiled _ as_some written) (sends_none out out_now (report_lines (report_on has.is.unit object passes)) same))
 
   -- what stands after the object and the report, of which these are the bytes and the counts
   as_written : (bytes : List ℕ) (counts : List PassCount) (due is : Option ToolFault) → bytes ≡ it.bytes.items → counts ≡ passes → due ≡ is
@@ -254,7 +254,7 @@ pub ruleset writes_due = (object_written, object_unwritten, object_lacks)
 -- ---- no memory for a line
 
 -- where a fault is due, what stands is what may stand where memory ran out
-pub ends_lacking : (Scheduled : CompileRequest → SourceProgram → CodeWithNotes → Type 0) (passes : List PassCount) (given : Option CompileRequest)
+pub ends_lacking : (Scheduled : CompileRequest → TranslationUnit → CodeWithNotes → Type 0) (passes : List PassCount) (given : Option CompileRequest)
     (old new : Shelved) (out out_now : Streamed) (why : ToolFault)
     → CompilerEnds Scheduled passes old new out out_now given (Some why) → CompilerLacks Scheduled passes old new out out_now given
 ends_lacking Scheduled passes given old new out out_now why (Misused same quiet) = Early (subst (λ (now : Shelved). ReadKeeps old now) (sym same) (same_keeps old)) quiet
@@ -262,15 +262,15 @@ ends_lacking Scheduled passes given old new out out_now why (Unread is keeps fai
 ends_lacking Scheduled passes given old new out out_now why (Refused keeps source same) = Early keeps same
 ends_lacking Scheduled passes given old new out out_now why (Unwritten {request} {name} is source differs failed same) =
     Writing source (subst (λ name. OnlyFileDiffers old.held new.held name) (sym is) differs) same
-ends_lacking Scheduled passes given old new out out_now why (Unreported {request} {program} {object} asked it rose part) =
-    Reporting asked it (sends_part out out_now (report_lines (report_on program object passes)) part)
+ends_lacking Scheduled passes given old new out out_now why (Unreported {request} {unit} {object} asked it rose part) =
+    Reporting asked it (sends_part out out_now (report_lines (report_on unit object passes)) part)
 ends_lacking Scheduled passes given old new out out_now why (Lacking lacks) = lacks
 
 -- the object of what is handed out may be encoded
 done_object : (Passed : FlowGraph → FlowGraph → Type 0) (passes : List PassCount) (old new : Shelved) (out out_now : Streamed) (given : Option CompileRequest) (it : Compiled)
     (due : Option ToolFault) → CompilerEnds (IsScheduledAs Passed (Some it)) passes old new out out_now given due → due ≡ None → IsObject (object_of it.object)
 unfolding IsScheduledAs
-done_object Passed passes old new out out_now given it due (Done {request} {program} {object} done sent) none =
+done_object Passed passes old new out out_now given it due (Done {request} {unit} {object} done sent) none =
     subst IsObject (sym done.scheduled.0) done.translates.loads.is_object
 done_object Passed passes old new out out_now given it due _ none = absurd cc
 

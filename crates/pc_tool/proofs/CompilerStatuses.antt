@@ -1,7 +1,7 @@
 -- What follows from the compiler's promise.
 use Rattle.std.proofs.Common.{◌≡◌, ℕ, ◌≤◌, ◌⊎◌, inl, inr, List, false, Option, Some, None, refl, sym, ap, subst, arith}
 use Rattle.std.specs.Option.{IsSomeAnd}
-use Rattle.pc_syntax.specs.Source.{SourceProgram}
+use Rattle.pc_syntax.specs.Unit.{TranslationUnit}
 use Rattle.pc_object.specs.ObjectText.{CodeWithNotes}
 use Rattle.pc_outside.specs.Shelf.{Shelved, ReadKeeps, OnlyFileDiffers}
 use Rattle.pc_command.specs.Requests.{CompileRequest}
@@ -22,15 +22,15 @@ use Rattle.pc_driver.proofs.Statuses.{due_status, status_of}
 
 -- ---- what is due, by how it ended
 
-module _ (Scheduled : CompileRequest → SourceProgram → CodeWithNotes → Type 0) (passes : List PassCount) (old new : Outside) where
+module _ (Scheduled : CompileRequest → TranslationUnit → CodeWithNotes → Type 0) (passes : List PassCount) (old new : Outside) where
   -- how it ended, with the status of what was due
   abbrev Ends : Option CompileRequest → Option ToolFault → Type 0
   Ends given due = CompilerEnds Scheduled passes old.shelf new.shelf old.out new.out given due
 
   compiled_of : (given : Option CompileRequest) (due : Option ToolFault) (code : ℕ) → Ends given due → Told due old.err new.err code → due_status due ≡ 0
       → IsSomeAnd given (HasCompiled Scheduled passes old new)
-  compiled_of given due code (Done {request} {program} {object} it sent) told e =
-      record { program = program; object = object; compiled = it; reported = sent; silent = told.1 }
+  compiled_of given due code (Done {request} {unit} {object} it sent) told e =
+      record { unit = unit; object = object; compiled = it; reported = sent; silent = told.1 }
   compiled_of given due code _ told e = absurd cc
 
   lacking_of : (given : Option CompileRequest) (due : Option ToolFault) → Ends given due → due_status due ≡ 1 → CompilerLacks Scheduled passes old.shelf new.shelf old.out new.out given
@@ -103,7 +103,7 @@ module _ (Scheduled : CompileRequest → SourceProgram → CodeWithNotes → Typ
   unasked_lacking request (Reporting asked it sent) off = absurd cc
 
   unasked_of : (request : CompileRequest) (due : Option ToolFault) → Ends (Some request) due → request.report ≡ false → new.out ≡ old.out
-  unasked_of request due (Done {program} {object} it sent) off = subst (λ asked. Reports asked (report_on program object passes) old.out new.out) off sent
+  unasked_of request due (Done {unit} {object} it sent) off = subst (λ asked. Reports asked (report_on unit object passes) old.out new.out) off sent
   unasked_of request due (Unread is keeps failed same) off = same
   unasked_of request due (Refused keeps source same) off = same
   unasked_of request due (Unwritten is source differs failed same) off = same
@@ -129,22 +129,22 @@ module _ (Scheduled : CompileRequest → SourceProgram → CodeWithNotes → Typ
   complete_of request text due (Lacking lacks) told source = inr (inl refl)
 
   -- the source of an object that was written, of a text that is told
-  compiled_source : (request : CompileRequest) (text : List ℕ) (program : SourceProgram) (object : CodeWithNotes) → IsTold old.shelf.held request.source text
-      → WritesObject Scheduled request program object old.shelf new.shelf → IsSomeSource text
-  compiled_source request text program object told it =
-      subst IsSomeSource (text_told old.shelf.held request.source text it.text told it.in_source) (program, it.translates.source)
+  compiled_source : (request : CompileRequest) (text : List ℕ) (unit : TranslationUnit) (object : CodeWithNotes) → IsTold old.shelf.held request.source text
+      → WritesObject Scheduled request unit object old.shelf new.shelf → IsSomeSource text
+  compiled_source request text unit object told it =
+      subst IsSomeSource (text_told old.shelf.held request.source text it.text told it.in_source) (unit, it.translates.source)
 
   strict_of : (request : CompileRequest) (text : List ℕ) (due : Option ToolFault) → Ends (Some request) due
       → IsTold old.shelf.held request.source text → IsNoSource text
       → (due_status due ≡ 4) ⊎ (due_status due ≡ 1) ⊎ ((due_status due ≡ 3) × HasReadFault old new request)
-  strict_of request text due (Done {program} {object} it sent) told none =
-      let source = compiled_source request text program object told it in absurd (none source.0 source.1)
+  strict_of request text due (Done {unit} {object} it sent) told none =
+      let source = compiled_source request text unit object told it in absurd (none source.0 source.1)
   strict_of request text due (Unread {name} is keeps failed same) told none = inr (inr (refl, record { name = name.now; file = is; fault = failed }))
   strict_of request text due (Refused keeps faulty same) told none = inl refl
   strict_of request text due (Unwritten is held differs failed same) told none =
       let source = source_told old.shelf.held request.source text IsSomeSource told held in absurd (none source.0 source.1)
-  strict_of request text due (Unreported {program} {object} asked it rose part) told none =
-      let source = compiled_source request text program object told it in absurd (none source.0 source.1)
+  strict_of request text due (Unreported {unit} {object} asked it rose part) told none =
+      let source = compiled_source request text unit object told it in absurd (none source.0 source.1)
   strict_of request text due (Lacking lacks) told none = inr (inl refl)
 
   -- ---- of the status itself, which is that of what was due, or 5 for a fault of the error output
@@ -181,7 +181,7 @@ module _ (Scheduled : CompileRequest → SourceProgram → CodeWithNotes → Typ
     }
 
 -- the promise says all this
-pub statuses_of : (given : Option CompileRequest) (Scheduled : CompileRequest → SourceProgram → CodeWithNotes → Type 0)
+pub statuses_of : (given : Option CompileRequest) (Scheduled : CompileRequest → TranslationUnit → CodeWithNotes → Type 0)
     (passes : List PassCount) (old new : Outside) (code : ℕ) → CompilerPromise given Scheduled passes old new code
     → CompilerStatuses given Scheduled passes old new code
 statuses_of given Scheduled passes old new code promise = statuses Scheduled passes old new given promise.due code promise.ends promise.told

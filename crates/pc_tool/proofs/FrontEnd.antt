@@ -1,27 +1,33 @@
 -- The faults of a text, from the refusals of the steps that read it.
-use Rattle.std.proofs.Common.{◌≡◌, ℕ, ◌≤◌, List, length, refl}
-use Rattle.std.specs.Prelude.{Result, Ok, Err, IsErrOf}
+use Rattle.std.proofs.Common.{◌≡◌, true, ℕ, ◌≤◌, List, [], ◌∷◌, length, refl, ap, ◌∙◌}
+use Rattle.std.specs.Prelude.{Option, Some, None, option_map, slice_get, Result, Ok, Err, IsErrOf}
 use Rattle.pc_word.specs.Exact.{checked, IsRefusal}
 use Rattle.pc_word.specs.SourceLimits.{most_source, most_height}
 use Rattle.pc_lexer.specs.declared.token.Token.{Token}
 use Rattle.pc_lexer.specs.declared.error.LexError.{LexError}
 use Rattle.pc_lexer.specs.declared.error.LexError.TheVariants as lex
 use Rattle.pc_lexer.specs.Tokens.{lexed, lex_cause}
-use Rattle.pc_syntax.specs.Source.{SourceProgram}
-use Rattle.pc_syntax.specs.declared.program.Program.{Program}
+use Rattle.pc_syntax.specs.Source.{SourceProgram, ResolvedProgram}
+use Rattle.pc_syntax.specs.Proper.{unit_is_proper}
+use Rattle.pc_syntax.specs.Unit.{TranslationUnit}
+use Rattle.pc_calls.specs.Inlining.{inlining, symbol_bound}
+use Rattle.pc_calls.specs.Refusals.{Refusal}
+use Rattle.pc_inline.specs.declared.error.InlineError.{InlineError}
+use Rattle.pc_inline.specs.Inlined.{inline_cause}
+use Rattle.pc_syntax.specs.declared.unit.SourceUnit.{SourceUnit}
 use Rattle.pc_parser.specs.declared.unit.ParseError.{ParseError}
 use Rattle.pc_parser.specs.declared.unit.ParseError.TheVariants as parse
-use Rattle.pc_parser.specs.Parse.{IsPlaceOfLine, NothingReads, NothingReadsWithin}
+use Rattle.pc_parser.specs.Parse.{IsPlaceOfLine, NothingReadsUnit, NothingReadsUnitWithin}
 use Rattle.pc_check.specs.declared.error.CheckError.{CheckError}
 use Rattle.pc_check.specs.declared.error.CheckError.TheVariants as check
 use Rattle.pc_check.specs.Checks.{check_cause}
 use Rattle.pc_check.specs.Faults.{faults}
 use Rattle.pc_check.specs.Resolution.{resolved}
 use Rattle.pc_check.proofs.ExactLaws.{refused-first}
-use Rattle.pc_tool.specs.Source.{IsRead}
-use Rattle.pc_tool.specs.SourceFaults.{Uncut, Unread, Nested, Faulty}
-use Rattle.pc_tool.specs.models.Refusals.{refusal_of_lex, refusal_of_parse, refusal_of_check}
-use Rattle.pc_tool.specs.models.Translating.{RefusesText}
+use Rattle.pc_tool.specs.Source.{IsRead, unit_refusals, written_out}
+use Rattle.pc_tool.specs.SourceFaults.{Uncut, Unread, Nested, Uncallable, Faulty, told_of_call}
+use Rattle.pc_tool.specs.models.Refusals.{refusal_of, refusal_of_lex, refusal_of_parse, refusal_of_inline, refusal_of_check}
+use Rattle.pc_tool.specs.models.Translating.{IsChecked, RefusesText}
 
 -- a text that is not cut into tokens
 pub uncut : (error : LexError) (text : List ℕ) → length text ≤ most_source → IsRefusal (lex_cause error) (lexed text) → RefusesText (refusal_of_lex error) text
@@ -31,30 +37,68 @@ uncut (lex.OpenComment line) text few first = Uncut few first refl
 uncut lex.TooManyTokens text few first = Uncut few first refl
 uncut lex.Memory text few first = tt
 
-abbrev failed : ParseError → Result Program ParseError
+abbrev failed : ParseError → Result SourceUnit ParseError
 failed error = Err error
 
 -- tokens that are no program
 pub unparsed : (error : ParseError) (text : List ℕ) (tokens : List Token) → length text ≤ most_source → lexed text ≡ Ok tokens
-    → ((at line : ℕ) → IsErrOf (failed error) (parse.Syntax at line) → IsPlaceOfLine tokens at line × NothingReads tokens at)
-    → ((at line : ℕ) → IsErrOf (failed error) (parse.TooNested at line) → IsPlaceOfLine tokens at line × NothingReadsWithin most_height tokens at × (250 ≤ at))
+    → ((at line : ℕ) → IsErrOf (failed error) (parse.Syntax at line) → IsPlaceOfLine tokens at line × NothingReadsUnit tokens at)
+    → ((at line : ℕ) → IsErrOf (failed error) (parse.TooNested at line) → IsPlaceOfLine tokens at line × NothingReadsUnitWithin most_height tokens at × (250 ≤ at))
     → RefusesText (refusal_of_parse error) text
 unparsed (parse.Syntax at line) text tokens few cut syntax nested = let h = syntax at line refl in Unread few cut h.0 h.1
 unparsed (parse.TooNested at line) text tokens few cut syntax nested = let h = nested at line refl in Nested few cut h.0 h.1 h.2
 unparsed parse.Memory text tokens few cut syntax nested = tt
 
+-- the refusals of a unit, of which one is told
+told_first : (told : Option Refusal) (all : List Refusal) (program : SourceProgram) (text : List ℕ) (unit : TranslationUnit) → IsRead text unit
+    → unit_refusals unit ≡ all → IsRefusal told (checked all program) → RefusesText (refusal_of (option_map told_of_call told)) text
+told_first None all program text unit read same is = tt
+told_first (Some why) [] program text unit read same is = absurd cc
+told_first (Some why) (first ∷ others) program text unit read same is =
+    let one : first ≡ why = cc in
+    Uncallable read (ap (λ (list : List Refusal). slice_get list 0) same ∙ ap Some one) refl
+
+-- a unit whose calls cannot be written out
+pub uncalled : (error : InlineError) (text : List ℕ) (unit : TranslationUnit) → IsRead text unit
+    → IsRefusal (inline_cause error) (inlining unit) → RefusesText (refusal_of_inline error) text
+uncalled error text unit read is = told_first (inline_cause error) (unit_refusals unit) (written_out unit) text unit read refl is
+
+-- what is given has no faults, and is what was checked
+given_checked : {X F : Type 0} (all : List F) (found given : X) → checked all found ≡ Ok given → (all ≡ []) × (found ≡ given)
+given_checked [] found given is = (refl, cc)
+given_checked (first ∷ others) found given is = absurd cc
+
+-- a unit whose calls are written out has no refusal, and that is its program
+pub written : (unit : TranslationUnit) (given : SourceProgram) → inlining unit ≡ Ok given → (unit_refusals unit ≡ []) × (written_out unit ≡ given)
+written unit given is = given_checked (unit_refusals unit) (written_out unit) given is
+
+-- a text that is read, whose calls are written out, and that is checked
+pub is_checked : (text : List ℕ) (unit : TranslationUnit) (program : SourceProgram) (found : ResolvedProgram) → IsRead text unit
+    → unit_is_proper symbol_bound unit ≡ true → inlining unit ≡ Ok program → checked (faults program) (resolved program) ≡ Ok found → IsChecked text found
+is_checked text unit program found read proper inlined is =
+    let made = written unit program inlined in
+    let clean = given_checked (faults program) (resolved program) found is in
+    record {
+      unit = unit;
+      read = read;
+      proper = proper;
+      callable = made.0;
+      faultless = ap faults made.1 ∙ clean.0;
+      is_resolved = ap resolved made.1 ∙ clean.1;
+    }
+
 -- a program with a fault
-pub refused : (error : CheckError) (text : List ℕ) (program : SourceProgram) → IsRead text program
-    → IsRefusal (check_cause error) (checked (faults program) (resolved program)) → RefusesText (refusal_of_check error) text
-refused check.Memory text program read is = tt
-refused (check.Undeclared line) text program read is = Faulty read (refused-first (check.Undeclared line) (faults program) (resolved program) is) refl
-refused (check.Redeclared line) text program read is = Faulty read (refused-first (check.Redeclared line) (faults program) (resolved program) is) refl
-refused (check.NotArray line) text program read is = Faulty read (refused-first (check.NotArray line) (faults program) (resolved program) is) refl
-refused (check.NotScalar line) text program read is = Faulty read (refused-first (check.NotScalar line) (faults program) (resolved program) is) refl
-refused (check.BadSize line) text program read is = Faulty read (refused-first (check.BadSize line) (faults program) (resolved program) is) refl
-refused (check.OutsideLoop line) text program read is = Faulty read (refused-first (check.OutsideLoop line) (faults program) (resolved program) is) refl
-refused (check.TooManyScalars line) text program read is = Faulty read (refused-first (check.TooManyScalars line) (faults program) (resolved program) is) refl
-refused (check.TooManyArrays line) text program read is = Faulty read (refused-first (check.TooManyArrays line) (faults program) (resolved program) is) refl
-refused (check.TooManyElements line) text program read is = Faulty read (refused-first (check.TooManyElements line) (faults program) (resolved program) is) refl
-refused (check.TooManyValues line) text program read is = Faulty read (refused-first (check.TooManyValues line) (faults program) (resolved program) is) refl
-refused (check.TooDeep line) text program read is = Faulty read (refused-first (check.TooDeep line) (faults program) (resolved program) is) refl
+pub refused : (error : CheckError) (text : List ℕ) (unit : TranslationUnit) → IsRead text unit → unit_refusals unit ≡ []
+    → IsRefusal (check_cause error) (checked (faults (written_out unit)) (resolved (written_out unit))) → RefusesText (refusal_of_check error) text
+refused check.Memory text unit read callable is = tt
+refused (check.Undeclared line) text unit read callable is = Faulty read callable (refused-first (check.Undeclared line) (faults (written_out unit)) (resolved (written_out unit)) is) refl
+refused (check.Redeclared line) text unit read callable is = Faulty read callable (refused-first (check.Redeclared line) (faults (written_out unit)) (resolved (written_out unit)) is) refl
+refused (check.NotArray line) text unit read callable is = Faulty read callable (refused-first (check.NotArray line) (faults (written_out unit)) (resolved (written_out unit)) is) refl
+refused (check.NotScalar line) text unit read callable is = Faulty read callable (refused-first (check.NotScalar line) (faults (written_out unit)) (resolved (written_out unit)) is) refl
+refused (check.BadSize line) text unit read callable is = Faulty read callable (refused-first (check.BadSize line) (faults (written_out unit)) (resolved (written_out unit)) is) refl
+refused (check.OutsideLoop line) text unit read callable is = Faulty read callable (refused-first (check.OutsideLoop line) (faults (written_out unit)) (resolved (written_out unit)) is) refl
+refused (check.TooManyScalars line) text unit read callable is = Faulty read callable (refused-first (check.TooManyScalars line) (faults (written_out unit)) (resolved (written_out unit)) is) refl
+refused (check.TooManyArrays line) text unit read callable is = Faulty read callable (refused-first (check.TooManyArrays line) (faults (written_out unit)) (resolved (written_out unit)) is) refl
+refused (check.TooManyElements line) text unit read callable is = Faulty read callable (refused-first (check.TooManyElements line) (faults (written_out unit)) (resolved (written_out unit)) is) refl
+refused (check.TooManyValues line) text unit read callable is = Faulty read callable (refused-first (check.TooManyValues line) (faults (written_out unit)) (resolved (written_out unit)) is) refl
+refused (check.TooDeep line) text unit read callable is = Faulty read callable (refused-first (check.TooDeep line) (faults (written_out unit)) (resolved (written_out unit)) is) refl

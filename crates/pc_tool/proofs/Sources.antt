@@ -1,4 +1,4 @@
--- A text is one program at most, and which texts are no source.
+-- A text is one unit at most, and which texts are no source.
 use Rattle.std.proofs.Common.{◌≡◌, ℕ, ◌+◌, ◌<◌, ◌≤◌, List, [], ◌∷◌, length, Option, Some, None}
 use Rattle.std.proofs.Common.{refl, sym, ◌∙◌, ap, subst, cond, Bool, true, false, arith}
 use Rattle.std.proofs.lemmas.Bool.Decides.{nat_tests}
@@ -11,58 +11,67 @@ use Rattle.pc_lexer.specs.declared.error.LexError.{LexError}
 use Rattle.pc_lexer.specs.declared.error.LexError.TheVariants as lex
 use Rattle.pc_lexer.specs.Cut.{Cut, Done, Next, Stuck, line_behind, pieces_of}
 use Rattle.pc_lexer.specs.Tokens.{kind_of, names_after_piece, token_before, read, lexed}
-use Rattle.pc_syntax.specs.Source.{SourceProgram}
-use Rattle.pc_parser.specs.Parse.{IsReadWithin}
-use Rattle.pc_parser.proofs.Top.{one-program}
+use Rattle.pc_syntax.specs.Unit.{TranslationUnit}
+use Rattle.pc_parser.specs.Parse.{IsUnitReadWithin}
+use Rattle.pc_parser.proofs.UnitTop.{one-unit}
 use Rattle.pc_check.specs.declared.error.CheckError.{CheckError}
 use Rattle.pc_check.specs.Faults.{faults}
 use Rattle.pc_check.specs.Sizes.{size}
 use Rattle.pc_report.specs.declared.fault.SourceFault.{SourceFault}
 use Rattle.pc_driver.proofs.Results.{ok_same}
-use Rattle.pc_tool.specs.Source.{IsRead, IsNoSource}
-use Rattle.pc_tool.specs.SourceFaults.{HasFault, Long, Uncut, Unread, Nested, Faulty, Large}
+use Rattle.pc_tool.specs.Source.{IsRead, IsNoSource, unit_refusals, written_out}
+use Rattle.pc_calls.specs.Refusals.{Refusal}
+use Rattle.pc_tool.specs.SourceFaults.{HasFault, Long, Uncut, Unread, Nested, Uncallable, Faulty, Large}
 
--- ---- one program
+-- ---- one unit
 
--- a text is read as one program
-pub read_once : (text : List ℕ) (one other : SourceProgram) → IsRead text one → IsRead text other → one ≡ other
+-- a text is read as one unit
+pub read_once : (text : List ℕ) (one other : TranslationUnit) → IsRead text one → IsRead text other → one ≡ other
 read_once text one other r s =
     let same : r.tokens ≡ s.tokens = ok_same r.tokens s.tokens (lexed text) r.cut s.cut in
-    let here : IsReadWithin most_height s.tokens one = subst (λ tokens. IsReadWithin most_height tokens one) same r.read in
-    (one-program s.tokens one other here.0 s.read.0 here.2 s.read.2).0
+    let here : IsUnitReadWithin most_height s.tokens one = subst (λ tokens. IsUnitReadWithin most_height tokens one) same r.read in
+    (one-unit s.tokens one other here.0 s.read.0 here.2 s.read.2).0
 
 -- ---- texts that are no source
 
 -- a text that is too long
 long_is_none : (text : List ℕ) → most_source < length text → IsNoSource text
-long_is_none text long program source = let few : length text ≤ most_source = source.read.few_bytes in omega arith
+long_is_none text long unit source = let few : length text ≤ most_source = source.read.few_bytes in omega arith
 
 -- a text without tokens
 uncut_is_none : (text : List ℕ) (error : LexError) → lexed text ≡ Err error → IsNoSource text
-uncut_is_none text error first program source =
+uncut_is_none text error first unit source =
     let cut : lexed text ≡ Ok source.read.tokens = source.read.cut in
     cc
 
 -- a text whose tokens no program reads
 unread_is_none : (text : List ℕ) (tokens : List Token) → lexed text ≡ Ok tokens
-    → ((program : SourceProgram) → IsReadWithin most_height tokens program → ⊥) → IsNoSource text
-unread_is_none text tokens cut nothing program source =
+    → ((unit : TranslationUnit) → IsUnitReadWithin most_height tokens unit → ⊥) → IsNoSource text
+unread_is_none text tokens cut nothing unit source =
     let same : source.read.tokens ≡ tokens = ok_same source.read.tokens tokens (lexed text) source.read.cut cut in
-    nothing program (subst (λ tokens. IsReadWithin most_height tokens program) same source.read.read)
+    nothing unit (subst (λ tokens. IsUnitReadWithin most_height tokens unit) same source.read.read)
+
+-- a text whose calls cannot be written out
+uncallable_is_none : (text : List ℕ) (found : TranslationUnit) (why : Refusal) → IsRead text found → slice_get (unit_refusals found) 0 ≡ Some why → IsNoSource text
+uncallable_is_none text found why read first unit source =
+    let same : found ≡ unit = read_once text found unit read source.read in
+    let none : unit_refusals found ≡ [] = ap unit_refusals same ∙ source.callable in
+    let nothing : slice_get [] 0 ≡ Some why = subst (λ list. slice_get list 0 ≡ Some why) none first in
+    cc
 
 -- a text whose program has a fault
-faulty_is_none : (text : List ℕ) (found : SourceProgram) (error : CheckError) → IsRead text found → slice_get (faults found) 0 ≡ Some error → IsNoSource text
-faulty_is_none text found error read first program source =
-    let same : found ≡ program = read_once text found program read source.read in
-    let none : faults found ≡ [] = ap faults same ∙ source.faultless in
+faulty_is_none : (text : List ℕ) (found : TranslationUnit) (error : CheckError) → IsRead text found → slice_get (faults (written_out found)) 0 ≡ Some error → IsNoSource text
+faulty_is_none text found error read first unit source =
+    let same : found ≡ unit = read_once text found unit read source.read in
+    let none : faults (written_out found) ≡ [] = ap (λ (u : TranslationUnit). faults (written_out u)) same ∙ source.faultless in
     let nothing : slice_get [] 0 ≡ Some error = subst (λ list. slice_get list 0 ≡ Some error) none first in
     cc
 
 -- a text whose program has too large a flow graph
-large_is_none : (text : List ℕ) (found : SourceProgram) → IsRead text found → most_nodes < size found → IsNoSource text
-large_is_none text found read many program source =
-    let same : found ≡ program = read_once text found program read source.read in
-    let few : size found ≤ most_nodes = subst (λ (p : SourceProgram). size p ≤ most_nodes) (sym same) source.few_nodes in
+large_is_none : (text : List ℕ) (found : TranslationUnit) → IsRead text found → most_nodes < size (written_out found) → IsNoSource text
+large_is_none text found read many unit source =
+    let same : found ≡ unit = read_once text found unit read source.read in
+    let few : size (written_out found) ≤ most_nodes = subst (λ (u : TranslationUnit). size (written_out u) ≤ most_nodes) (sym same) source.few_nodes in
     omega (arith, few, many)
 
 -- a text with a fault is no source
@@ -70,11 +79,12 @@ pub fault_is_none : (text : List ℕ) (fault : SourceFault) → HasFault text fa
 fault_is_none text fault (Long long) = long_is_none text long
 fault_is_none text fault (Uncut {error} few first told) = uncut_is_none text error first
 fault_is_none text fault (Unread {tokens} few cut place nothing) =
-    unread_is_none text tokens cut (λ program read. nothing tokens program read.0 (λ place below. refl) read.2)
+    unread_is_none text tokens cut (λ unit read. nothing tokens unit read.0 (λ place below. refl) read.2)
 fault_is_none text fault (Nested {tokens} few cut place nothing far) =
-    unread_is_none text tokens cut (λ program read. nothing tokens program read.0 (λ place below. refl) read.1 read.2)
-fault_is_none text fault (Faulty {program} {error} read first told) = faulty_is_none text program error read first
-fault_is_none text fault (Large {program} read faultless many told) = large_is_none text program read many
+    unread_is_none text tokens cut (λ unit read. nothing tokens unit read.0 (λ place below. refl) read.1 read.2)
+fault_is_none text fault (Uncallable {unit} {why} read first told) = uncallable_is_none text unit why read first
+fault_is_none text fault (Faulty {unit} {error} read callable first told) = faulty_is_none text unit error read first
+fault_is_none text fault (Large {unit} read callable faultless many told) = large_is_none text unit read many
 
 -- ---- no more tokens than there may be
 

@@ -2,7 +2,7 @@
 use Rattle.std.specs.Prelude.{◌≡◌, ℕ, true, List, Option, Some, None}
 use Rattle.std.specs.Borrow.{Bor}
 use Rattle.pc_word.specs.Count.{Rose}
-use Rattle.pc_syntax.specs.Source.{SourceProgram}
+use Rattle.pc_syntax.specs.Unit.{TranslationUnit}
 use Rattle.pc_object.specs.ObjectText.{CodeWithNotes}
 use Rattle.pc_outside.specs.Shelf.{Shelved, ReadFaultOf, WriteFaultOf, ReadKeeps, OnlyFileDiffers}
 use Rattle.pc_outside.specs.Stream.{AppendsPart}
@@ -22,7 +22,7 @@ use Rattle.pc_tool.specs.SourceFaults.{HasFault}
 
 -- What stands where memory ran out: nothing was written and sent; or SRC is a source, and at most OBJ differs; or OBJ holds its
 -- object, and the front of the report was sent.
-pub data CompilerLacks (Scheduled : CompileRequest → SourceProgram → CodeWithNotes → Type 0) (passes : List PassCount)
+pub data CompilerLacks (Scheduled : CompileRequest → TranslationUnit → CodeWithNotes → Type 0) (passes : List PassCount)
     (old new : Shelved) (out out_now : Streamed) : (given : Option CompileRequest) → Type 0 where
   Early : {given : Option CompileRequest} →
       ReadKeeps old new →
@@ -33,20 +33,20 @@ pub data CompilerLacks (Scheduled : CompileRequest → SourceProgram → CodeWit
       OnlyFileDiffers old.held new.held request.object →
       out_now ≡ out →
       CompilerLacks Scheduled passes old new out out_now (Some request)
-  Reporting : {request : CompileRequest} {program : SourceProgram} {object : CodeWithNotes} →
+  Reporting : {request : CompileRequest} {unit : TranslationUnit} {object : CodeWithNotes} →
       request.report ≡ true →
-      WritesObject Scheduled request program object old new →
-      SendsFront out out_now (report_lines (report_on program object passes)) →
+      WritesObject Scheduled request unit object old new →
+      SendsFront out out_now (report_lines (report_on unit object passes)) →
       CompilerLacks Scheduled passes old new out out_now (Some request)
 
 -- How the compiler ends, by what is due: what was given, and what stands on the shelf and was sent to the output. `passes` are
 -- those over the flow graph, as they are at the end, and `Scheduled` says how an object is scheduled.
-pub data CompilerEnds (Scheduled : CompileRequest → SourceProgram → CodeWithNotes → Type 0) (passes : List PassCount)
+pub data CompilerEnds (Scheduled : CompileRequest → TranslationUnit → CodeWithNotes → Type 0) (passes : List PassCount)
     (old new : Shelved) (out out_now : Streamed) : (given : Option CompileRequest) (due : Option ToolFault) → Type 0 where
   -- the object is written, and the report sent where it is asked for
-  Done : {request : CompileRequest} {program : SourceProgram} {object : CodeWithNotes} →
-      WritesObject Scheduled request program object old new →
-      Reports request.report (report_on program object passes) out out_now →
+  Done : {request : CompileRequest} {unit : TranslationUnit} {object : CodeWithNotes} →
+      WritesObject Scheduled request unit object old new →
+      Reports request.report (report_on unit object passes) out out_now →
       CompilerEnds Scheduled passes old new out out_now (Some request) None
   -- the words are no command
   Misused :
@@ -75,11 +75,11 @@ pub data CompilerEnds (Scheduled : CompileRequest → SourceProgram → CodeWith
       out_now ≡ out →
       CompilerEnds Scheduled passes old new out out_now (Some request) (Some (fault.WriteFile Pcc name))
   -- the object is written, and a proper prefix of the report was sent before the output failed
-  Unreported : {request : CompileRequest} {program : SourceProgram} {object : CodeWithNotes} →
+  Unreported : {request : CompileRequest} {unit : TranslationUnit} {object : CodeWithNotes} →
       request.report ≡ true →
-      WritesObject Scheduled request program object old new →
+      WritesObject Scheduled request unit object old new →
       Rose out.faults out_now.faults →
-      AppendsPart out.told out_now.told (report_lines (report_on program object passes)) →
+      AppendsPart out.told out_now.told (report_lines (report_on unit object passes)) →
       CompilerEnds Scheduled passes old new out out_now (Some request) (Some (fault.WriteOutput Pcc))
   -- memory ran out
   Lacking : {given : Option CompileRequest} →
@@ -88,7 +88,7 @@ pub data CompilerEnds (Scheduled : CompileRequest → SourceProgram → CodeWith
 
 -- What the compiler promises of the outside before and after it, with these passes at its end, and objects that are scheduled as
 -- `Scheduled` says: it came to an end, what was due then is reported, and the input was not touched.
-pub record CompilerPromise (given : Option CompileRequest) (Scheduled : CompileRequest → SourceProgram → CodeWithNotes → Type 0)
+pub record CompilerPromise (given : Option CompileRequest) (Scheduled : CompileRequest → TranslationUnit → CodeWithNotes → Type 0)
     (passes : List PassCount) (old new : Outside) (code : ℕ) : Type 0 where
   pub due : Option ToolFault
   pub ends : CompilerEnds Scheduled passes old.shelf new.shelf old.out new.out given due

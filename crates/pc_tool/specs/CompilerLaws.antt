@@ -3,7 +3,7 @@ use Rattle.std.specs.Prelude.{◌≡◌, ℕ, ◌≤◌, ◌⊎◌, true, false,
 use Rattle.std.specs.FinMap.{get}
 use Rattle.std.specs.Option.{IsSomeAnd}
 use Rattle.pc_word.specs.Count.{Rose}
-use Rattle.pc_syntax.specs.Source.{SourceProgram}
+use Rattle.pc_syntax.specs.Unit.{TranslationUnit}
 use Rattle.pc_object.specs.ObjectText.{CodeWithNotes}
 use Rattle.pc_outside.specs.Shelf.{Files, ReadFaultOf, WriteFaultOf, ReadKeeps, OnlyFileDiffers}
 use Rattle.pc_command.specs.Requests.{CompileRequest, SourcePlace, OfFile, OfSample}
@@ -16,11 +16,11 @@ use Rattle.pc_driver.specs.Outside.{Outside, HasErrorFault}
 use Rattle.pc_tool.specs.Source.{IsSomeSource, IsNoSource}
 
 -- the object at OBJ does what the source does, the report was sent where it is asked for, and nothing was told
-pub record HasCompiled (Scheduled : CompileRequest → SourceProgram → CodeWithNotes → Type 0) (passes : List PassCount) (old new : Outside) (request : CompileRequest) : Type 0 where
-  pub program : SourceProgram
+pub record HasCompiled (Scheduled : CompileRequest → TranslationUnit → CodeWithNotes → Type 0) (passes : List PassCount) (old new : Outside) (request : CompileRequest) : Type 0 where
+  pub unit : TranslationUnit
   pub object : CodeWithNotes
-  pub compiled : WritesObject Scheduled request program object old.shelf new.shelf
-  pub reported : Reports request.report (report_on program object passes) old.out new.out
+  pub compiled : WritesObject Scheduled request unit object old.shelf new.shelf
+  pub reported : Reports request.report (report_on unit object passes) old.out new.out
   pub silent : new.err ≡ old.err
 
 -- the source is a file, of which the shelf had a read fault
@@ -45,7 +45,7 @@ IsTold held (OfFile name) text = (files : Files) × (held ≡ Some files) × (ge
 IsTold held (OfSample number) text = text ≡ sample_text number
 
 -- what follows
-pub record CompilerStatuses (given : Option CompileRequest) (Scheduled : CompileRequest → SourceProgram → CodeWithNotes → Type 0)
+pub record CompilerStatuses (given : Option CompileRequest) (Scheduled : CompileRequest → TranslationUnit → CodeWithNotes → Type 0)
     (passes : List PassCount) (old new : Outside) (code : ℕ) : Type 0 where
   -- what each status says
   pub compiled : code ≡ 0 → IsSomeAnd given (HasCompiled Scheduled passes old new)
@@ -73,7 +73,7 @@ pub record CompilerStatuses (given : Option CompileRequest) (Scheduled : Compile
       (code ≡ 4) ⊎ (code ≡ 1) ⊎ ((code ≡ 3) × HasReadFault old new request) ⊎ ((code ≡ 5) × HasErrorFault old new)
 
 -- the law: the promise says all this, whatever is said of schedules
-abbrev pub CompilerPromisesSay : (CompileRequest → SourceProgram → CodeWithNotes → Type 0) → Type 0
+abbrev pub CompilerPromisesSay : (CompileRequest → TranslationUnit → CodeWithNotes → Type 0) → Type 0
 CompilerPromisesSay Scheduled =
     (given : Option CompileRequest) (passes : List PassCount) (old new : Outside) (code : ℕ)
     → CompilerPromise given Scheduled passes old new code → CompilerStatuses given Scheduled passes old new code

@@ -2,11 +2,13 @@
 use Rattle.std.specs.Prelude.{◌≡◌, List, Option, Some, None}
 use Rattle.pc_word.specs.declared.item.Extent.{Extent}
 use Rattle.pc_word.specs.declared.item.Limits.{Limits}
-use Rattle.pc_syntax.specs.Source.{SourceProgram, ResolvedProgram}
+use Rattle.pc_syntax.specs.Source.{ResolvedProgram}
+use Rattle.pc_syntax.specs.Unit.{TranslationUnit}
 use Rattle.pc_check.specs.Resolution.{resolved}
 use Rattle.pc_flow.specs.FlowGraph.{FlowGraph}
 use Rattle.pc_table.specs.Table.{Table}
 use Rattle.pc_table.specs.StoredTable.{table_of}
+use Rattle.pc_tool.specs.Source.{written_out}
 use Rattle.pc_object.specs.ObjectText.{CodeWithNotes, object_of}
 use Rattle.pc_compile.specs.declared.choice.Choice.{Choice}
 use Rattle.pc_compile.specs.declared.program.Compiled.{Compiled}
@@ -23,7 +25,7 @@ pub record IsScheduled (program : ResolvedProgram) (Passed : FlowGraph → FlowG
 
 -- The object of a program is scheduled as was asked for: where something is handed out, its object is this one, and this is what is
 -- compiled over its graph, its regions and its choices; where nothing is, over some.
-unfoldable pub IsScheduledAs : (FlowGraph → FlowGraph → Type 0) → (handed : Option Compiled) → CompileRequest → SourceProgram → CodeWithNotes → Type 0
-IsScheduledAs Passed (Some it) request program object =
-    (object_of it.object ≡ object) × IsCompiled (resolved program) Passed request.limits request.extent it.flow (table_of it.table) it.choices object
-IsScheduledAs Passed None request program object = IsScheduled (resolved program) Passed request.limits request.extent object
+unfoldable pub IsScheduledAs : (FlowGraph → FlowGraph → Type 0) → (handed : Option Compiled) → CompileRequest → TranslationUnit → CodeWithNotes → Type 0
+IsScheduledAs Passed (Some it) request unit object =
+    (object_of it.object ≡ object) × IsCompiled (resolved (written_out unit)) Passed request.limits request.extent it.flow (table_of it.table) it.choices object
+IsScheduledAs Passed None request unit object = IsScheduled (resolved (written_out unit)) Passed request.limits request.extent object

@@ -1,10 +1,11 @@
 //! Why a text is not translated.
 ghost use Rattle.std.specs.Prelude.{◌≡◌};
-ghost use Rattle.pc_tool.specs.models.Refusals.{refusal_of_lex, refusal_of_parse, refusal_of_check, refusal_of_compile};
+ghost use Rattle.pc_tool.specs.models.Refusals.{refusal_of_lex, refusal_of_parse, refusal_of_inline, refusal_of_check, refusal_of_compile};
 ghost use Rattle.pc_tool.specs.declared.refusal.Refusal.TheVariants.{Memory};
 
 use pc_check::CheckError;
 use pc_compile::CompileError;
+use pc_inline::InlineError;
 use pc_lexer::LexError;
 use pc_parser::ParseError;
 use pc_report::{LineFault, SourceFault};
@@ -57,6 +58,28 @@ impl From<ParseError> for Refusal {
             ParseError::Syntax { line, .. } => at_line(LineFault::Syntax, line),
             ParseError::TooNested { line, .. } => at_line(LineFault::NestedTooDeep, line),
             ParseError::Memory => Refusal::Memory,
+        }
+    }
+}
+
+impl From<InlineError> for Refusal {
+    ghost from_gives = { λ error given. given ≡ refusal_of_inline error };
+
+    fn from(error: InlineError) -> Refusal {
+        match error {
+            InlineError::FunctionTwice { line } => at_line(LineFault::FunctionTwice, line),
+            InlineError::EarlyReturn { line } => at_line(LineFault::EarlyReturn, line),
+            InlineError::ArrayInFunction { line } => at_line(LineFault::ArrayInFunction, line),
+            InlineError::LooseJump { line } => at_line(LineFault::LooseJump, line),
+            InlineError::NoFunction { line } => at_line(LineFault::NoFunction, line),
+            InlineError::Arguments { line } => at_line(LineFault::WrongArguments, line),
+            InlineError::TooBig => Refusal::Source {
+                fault: SourceFault::InlinedTooBig,
+            },
+            InlineError::TooHigh => Refusal::Source {
+                fault: SourceFault::InlinedTooHigh,
+            },
+            InlineError::Memory => Refusal::Memory,
         }
     }
 }

@@ -9,9 +9,10 @@ ghost use Rattle.pc_word.specs.SourceLimits.{most_source};
 use crate::refusal::Refusal;
 use pc_check::{Checked, check};
 use pc_compile::{Compiled, compile_with};
+use pc_inline::inline;
 use pc_lexer::tokens;
 use pc_object::encode;
-use pc_parser::parse;
+use pc_parser::parse_unit;
 use pc_pass::Pass;
 use pc_word::{Extent, Limits};
 use std::alloc::Global;
@@ -45,13 +46,15 @@ pub(crate) fn translate<P: Pass>(
     Ok(Translation { compiled, bytes })
 }
 
-/// The program that a text is read as, with numbers for names, if none of them is faulty.
+/// The program that a text is read as, with its calls written out and numbers for names, if none of these is
+/// faulty.
 fn read_program(alloc: Global, text: &[u8]) -> Result<Checked, Refusal>
     requires { length text.now ≤ most_source }
     ensures { MatchResult result (λ checked. IsChecked text.now (resolved_of checked)) (λ refusal. RefusesText refusal text.now) }
 {
     let tokens = tokens(alloc, text)?;
-    let program = parse(alloc, &tokens)?;
+    let unit = parse_unit(alloc, &tokens)?;
+    let program = inline(alloc, &unit)?;
     let checked = check(alloc, &program)?;
     Ok(checked)
 }

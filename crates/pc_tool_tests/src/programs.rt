@@ -22,7 +22,7 @@ struct Program {
 
 /// What C says, and where C leaves it open, what the language says: words wrap, `/` truncates, `%` has the sign
 /// of the dividend, operands are evaluated from left to right.
-const PROGRAMS: [Program; 20] = [
+const PROGRAMS: [Program; 26] = [
     Program {
         source: b"int main(void){print(2147483647+1);print((-2147483647-1)/-1);print(-7/2);print(-7%2);}",
         input: b"",
@@ -50,6 +50,59 @@ const PROGRAMS: [Program; 20] = [
         code: 10,
         output: b"1\n",
         told: "pvm: trap: divide by zero at line 2\n",
+    },
+    // A function's value, in a loop of its caller.
+    Program {
+        source: b"int sq(int x){return x*x;}int main(void){int s=0;int t;int i;for(i=1;i<4;i++){t=sq(i);s+=t;}print(s);}",
+        input: b"",
+        code: 0,
+        output: b"14\n",
+        told: "",
+    },
+    // Arguments are evaluated from left to right; a function without `return` gives 0.
+    Program {
+        source: b"int minus(int a,int b){return a-b;}int shown(int a){print(a);}\
+            int main(void){int d=minus(read(),read());d=minus(d,read());int z=shown(d);print(z);}",
+        input: b"9 3 4",
+        code: 0,
+        output: b"2\n0\n",
+        told: "",
+    },
+    // Each call begins anew, and leaves the caller's names alone, one of the same spelling too.
+    Program {
+        source: b"int count(int x){int n;n+=x;print(n);return n;}\
+            int main(void){int n=5;int x=7;count(2);x=count(x);print(n);print(x);}",
+        input: b"",
+        code: 0,
+        output: b"2\n7\n5\n7\n",
+        told: "",
+    },
+    // A declared target is 0 in its own arguments; a result without a target is evaluated.
+    Program {
+        source: b"int same(int x){return x;}int tested(int x){return 1/x;}\
+            int main(void){int i;for(i=0;i<2;i++){int t=same(t+i);print(t);t=9;}\ntested(0);}",
+        input: b"",
+        code: 10,
+        output: b"0\n1\n",
+        told: "pvm: trap: divide by zero at line 1\n",
+    },
+    // Functions call earlier ones, have loops, and stand in the first part and the step of a `for`.
+    Program {
+        source: b"int add(int a,int b){return a+b;}\
+            int sum(int n){int s;int i;for(i=1;i<=n;i=add(i,1))s=add(s,i);return s;}\
+            int main(void){int k;for(k=sum(2);k<40;k=sum(k))print(k);print(k);}",
+        input: b"",
+        code: 0,
+        output: b"3\n6\n21\n231\n",
+        told: "",
+    },
+    // A function and a scalar may have one name.
+    Program {
+        source: b"int f(int x){return x+1;}int main(void){int f=3;f=f(f);print(f);}",
+        input: b"",
+        code: 0,
+        output: b"4\n",
+        told: "",
     },
     // Static arrays begin with their values, once.
     Program {

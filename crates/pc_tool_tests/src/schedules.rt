@@ -89,7 +89,7 @@ const SCHEDULED: [Scheduled; 9] = [
     Scheduled {
         source: NESTED,
         line: "a.c -o o.tv --report",
-        report: b"nodes 19\nrows 13\nloop 3: pipelined, rows 4 of 256\nloop 5: pipelined, rows 1 of 256\n",
+        report: b"nodes 19\nrows 10\nloop 3: pipelined, rows 4 of 256\nloop 5: pipelined, rows 1 of 256\n",
         input: b"",
         output: b"0\n1\n2\n3\n",
     },

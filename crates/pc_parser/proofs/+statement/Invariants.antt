@@ -1,5 +1,5 @@
 use Rattle.std.proofs.Common.{◌≡◌, ℕ, ◌+◌, ◌-◌, ◌*◌, ◌<◌, ◌≤◌, length}
-use Rattle.pc_syntax.specs.Erasure.{list_of}
+use Rattle.pc_syntax.specs.UnitErasure.{unit_list_of}
 use Rattle.pc_parser.specs.models.StatementParser.{items_at, statement_below}
 use Rattle.pc_parser.proofs.Lists.{gathered}
 use Rattle.pc_parser.proofs.+statement.Given as goal
@@ -45,8 +45,8 @@ abbrev pub invariant-statement::items-loop-alloc : goal.invariant-statement::ite
 invariant-statement::items-loop-alloc l = record {
   turns : ℕ;
   enough : length l.tokens < l.next + turns;
-  same : items_at l.tokens (statement_below l.tokens l.budget) l.budget (length l.tokens + 1) l.place
-      ≡ gathered (list_of l.items) l.height (items_at l.tokens (statement_below l.tokens l.budget) l.budget turns l.next);
+  same : items_at l.tokens l.calls (statement_below l.tokens l.calls l.budget) l.budget (length l.tokens + 1) l.place
+      ≡ gathered (unit_list_of l.items) l.height (items_at l.tokens l.calls (statement_below l.tokens l.calls l.budget) l.budget turns l.next);
   low : l.height ≤ l.budget - 1;
   inside : l.next ≤ length l.tokens;
 }

@@ -12,7 +12,7 @@ use Rattle.pc_parser.specs.declared.operator.Operator.{Operator}
 use Rattle.pc_parser.specs.Places.{kind_at, line_at}
 use Rattle.pc_parser.specs.models.Tests.{is_mark, mark_is, key_is}
 use Rattle.pc_parser.specs.Operators.{operator_of, prefix_of, infixed, prefixed}
-use Rattle.pc_parser.specs.Statements.{Target}
+use Rattle.pc_parser.specs.Statements.{Lvalue}
 use Rattle.pc_parser.specs.models.Outcome.{ParseOutcome, Parsed, Unreadable, TooHigh, after, allowed, expect}
 
 -- the operator that a mark stands for, where its level is this one or a tighter one
@@ -36,30 +36,30 @@ sign_of (Some (kinds.Name symbol)) = None
 sign_of (Some (kinds.Number value)) = None
 sign_of None = None
 
--- a target as an expression
-abbrev pub indexed : Target → Option SourceExpression → SourceExpression
-indexed target None = Variable target.symbol target.line
-indexed target (Some index) = Indexed target.symbol target.line target.bracket index
+-- an lvalue as an expression
+abbrev pub indexed : Lvalue → Option SourceExpression → SourceExpression
+indexed lvalue None = Variable lvalue.symbol lvalue.line
+indexed lvalue (Some index) = Indexed lvalue.symbol lvalue.line lvalue.bracket index
 
-abbrev pub target_tree : Target → SourceExpression
-target_tree target = indexed target target.index
+abbrev pub lvalue_tree : Lvalue → SourceExpression
+lvalue_tree lvalue = indexed lvalue lvalue.index
 
--- the height of a target as an expression
+-- the height of an lvalue as an expression
 abbrev pub at_least_one : ℕ → Option SourceExpression → ℕ
 at_least_one height None = 1
 at_least_one height (Some index) = height
 
-abbrev pub target_height : Target → ℕ → ℕ
-target_height target height = at_least_one height target.index
+abbrev pub lvalue_height : Lvalue → ℕ → ℕ
+lvalue_height lvalue height = at_least_one height lvalue.index
 
 -- a parser of what stands at a level from a place on
 abbrev pub Inner : Type 0
 Inner = (level from : ℕ) → ParseOutcome SourceExpression
 
 module _ (tokens : List Token) (inner : Inner) (budget : ℕ) where
-  -- the target at the name with this symbol
-  unfoldable pub target_named : (symbol from : ℕ) → ParseOutcome Target
-  target_named symbol from =
+  -- the lvalue at the name with this symbol
+  unfoldable pub lvalue_named : (symbol from : ℕ) → ParseOutcome Lvalue
+  lvalue_named symbol from =
       if is_mark marks.LeftBracket (kind_at tokens (from + 1))
       then allowed 2 budget (from + 1) (after (inner 0 (from + 2)) (λ index height to.
       expect tokens marks.RightBracket to (Parsed record { symbol = symbol; line = line_at tokens from; index = Some index; bracket = line_at tokens (from + 1) } (height + 1) (to + 1))))
@@ -83,8 +83,8 @@ module _ (tokens : List Token) (inner : Inner) (budget : ℕ) where
 
   -- a name, or an element of the array with the name
   unfoldable pub name_at : (symbol from : ℕ) → ParseOutcome SourceExpression
-  name_at symbol from = allowed 1 budget from (after (target_named symbol from) (λ target height to.
-      Parsed (target_tree target) (target_height target height) to))
+  name_at symbol from = allowed 1 budget from (after (lvalue_named symbol from) (λ lvalue height to.
+      Parsed (lvalue_tree lvalue) (lvalue_height lvalue height) to))
 
   -- the primary expression that begins with this token
   unfoldable pub primary_on : Option TokenKind → (from : ℕ) → ParseOutcome SourceExpression

@@ -3,31 +3,32 @@ use Rattle.std.specs.Prelude.{◌≡◌, ℕ, ◌≤◌, List, length, Option, S
 use Rattle.pc_word.specs.SourceLimits.{most_tokens, most_height}
 use Rattle.pc_lexer.specs.declared.token.Token.{Token}
 use Rattle.pc_syntax.specs.declared.statement.Stmt.{Stmt}
-use Rattle.pc_syntax.specs.Source.{SourceList, OptionalStatement, Absent, Present, appended}
-use Rattle.pc_syntax.specs.Erasure.{expression_of, statement_of}
+use Rattle.pc_syntax.specs.Unit.{UnitList, UnitOptional, Without, With, unit_appended}
+use Rattle.pc_syntax.specs.Erasure.{expression_of}
+use Rattle.pc_syntax.specs.UnitErasure.{unit_statement_of}
 use Rattle.pc_parser.specs.declared.outcome.Failure.{Failure}
 use Rattle.pc_parser.specs.declared.outcome.Failure.TheVariants as failures
 use Rattle.pc_parser.specs.declared.outcome.Parsed as code
-use Rattle.pc_parser.specs.declared.target.Target as targets
+use Rattle.pc_parser.specs.declared.lvalue.Lvalue as lvalues
 use Rattle.pc_parser.specs.declared.unit.ParseError.{ParseError}
 use Rattle.pc_parser.specs.declared.unit.ParseError.TheVariants as errors
-use Rattle.pc_parser.specs.Statements.{Target}
+use Rattle.pc_parser.specs.Statements.{Lvalue}
 use Rattle.pc_parser.specs.Parse.{error_line}
 use Rattle.pc_parser.specs.models.Outcome.{ParseOutcome, Parsed, Unreadable, TooHigh, after}
 
--- the target that one of the code stands for
-abbrev pub target_of : targets.Target → Target
-target_of target =
-    record { symbol = target.symbol; line = target.line; index = option_map expression_of target.index; bracket = target.bracket }
+-- the lvalue that one of the code stands for
+abbrev pub lvalue_of : lvalues.Lvalue → Lvalue
+lvalue_of lvalue =
+    record { symbol = lvalue.symbol; line = lvalue.line; index = option_map expression_of lvalue.index; bracket = lvalue.bracket }
 
 -- the statement that an optional one of the code stands for
-abbrev pub optional_tree : Option Stmt → OptionalStatement
-optional_tree None = Absent
-optional_tree (Some tree) = Present (statement_of tree)
+abbrev pub optional_tree : Option Stmt → UnitOptional
+optional_tree None = Without
+optional_tree (Some tree) = With (unit_statement_of tree)
 
 -- what is read, after the items before it
-abbrev pub behind : SourceList → ParseOutcome SourceList → ParseOutcome SourceList
-behind front outcome = after outcome (λ rest height to. Parsed (appended front rest) height to)
+abbrev pub behind : UnitList → ParseOutcome UnitList → ParseOutcome UnitList
+behind front outcome = after outcome (λ rest height to. Parsed (unit_appended front rest) height to)
 
 -- a failure is what the parser gives, unless it is want of memory
 abbrev pub FailsParsing : {Y : Type 0} → Failure → ParseOutcome Y → Type 0

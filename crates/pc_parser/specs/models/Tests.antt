@@ -1,5 +1,5 @@
 -- Whether a token is a mark or a keyword, as the code tests it.
-use Rattle.std.specs.Prelude.{Bool, false, Option, Some, None}
+use Rattle.std.specs.Prelude.{ℕ, Bool, false, Option, Some, None}
 use denote.Enum.Bare.{sameb}
 use Rattle.pc_lexer.specs.declared.token.TokenKind.{TokenKind}
 use Rattle.pc_lexer.specs.declared.token.TokenKind.TheVariants as kinds
@@ -31,3 +31,11 @@ is_key key (Some (kinds.Mark found)) = false
 is_key key (Some (kinds.Name symbol)) = false
 is_key key (Some (kinds.Number value)) = false
 is_key key None = false
+
+-- the symbol of a name
+unfoldable pub symbol_of : Option TokenKind → Option ℕ
+symbol_of (Some (kinds.Name symbol)) = Some symbol
+symbol_of (Some (kinds.Number value)) = None
+symbol_of (Some (kinds.Key key)) = None
+symbol_of (Some (kinds.Mark mark)) = None
+symbol_of None = None

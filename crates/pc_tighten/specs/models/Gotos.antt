@@ -95,8 +95,10 @@ pub record AreRemoved (old new : List CodeRow) : Type 0 where
   pub shrink : RowsShrink old new
   pub none_left : HasNoGotoAlone new
 
--- items of rows have gone up, and then rows have gone
+-- rows have gone, items of the others have gone up, and then rows have gone again
 pub record AreTightened (limits : Limits) (before after : List CodeRow) : Type 0 where
+  pub first : List CodeRow
   pub between : List CodeRow
-  pub raised : IsRaised limits before between
+  pub first_removed : AreRemoved before first
+  pub raised : IsRaised limits first between
   pub removed : AreRemoved between after

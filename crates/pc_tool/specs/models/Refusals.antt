@@ -11,7 +11,10 @@ use Rattle.pc_report.specs.declared.fault.SourceFault.TheVariants as source
 use Rattle.pc_report.specs.declared.fault.LineFault.TheVariants as at_line
 use Rattle.pc_tool.specs.declared.refusal.Refusal.{Refusal}
 use Rattle.pc_tool.specs.declared.refusal.Refusal.TheVariants as refusal
-use Rattle.pc_tool.specs.SourceFaults.{told_of_lex, told_of_check}
+use Rattle.std.specs.Prelude.{option_map}
+use Rattle.pc_inline.specs.declared.error.InlineError.{InlineError}
+use Rattle.pc_inline.specs.Inlined.{inline_cause}
+use Rattle.pc_tool.specs.SourceFaults.{told_of_lex, told_of_call, told_of_check}
 
 -- the refusal of a text with a fault, if it has one, and else want of memory
 abbrev pub refusal_of : Option SourceFault → Refusal
@@ -27,6 +30,10 @@ abbrev pub refusal_of_parse : ParseError → Refusal
 refusal_of_parse (parse.Syntax at line) = refusal.Source (source.AtLine at_line.Syntax line)
 refusal_of_parse (parse.TooNested at line) = refusal.Source (source.AtLine at_line.NestedTooDeep line)
 refusal_of_parse parse.Memory = refusal.Memory
+
+-- a refusal of what writes calls out
+abbrev pub refusal_of_inline : InlineError → Refusal
+refusal_of_inline error = refusal_of (option_map told_of_call (inline_cause error))
 
 -- a refusal of the checker
 abbrev pub refusal_of_check : CheckError → Refusal

@@ -1,5 +1,5 @@
 use Rattle.std.proofs.Common.{◌≡◌, ℕ, ◌+◌, ◌-◌, ◌<◌, ◌≤◌, length}
-use Rattle.pc_syntax.specs.Erasure.{list_of}
+use Rattle.pc_syntax.specs.UnitErasure.{unit_list_of}
 use Rattle.pc_parser.specs.models.StatementParser.{declarators_at}
 use Rattle.pc_parser.specs.models.Parsing.{behind}
 use Rattle.pc_parser.proofs.Lists.{continued}
@@ -10,7 +10,8 @@ abbrev pub invariant-loop-alloc : goal.invariant-loop-alloc
 invariant-loop-alloc l = record {
   turns : ℕ;
   enough : length l.tokens < l.next + 1 + turns;
-  same : behind (list_of l.fn.items) (declarators_at l.tokens l.budget l.storage (length l.tokens + 1) l.place) ≡ continued l.tokens l.budget l.storage (list_of l.items) l.height l.next turns;
+  same : behind (unit_list_of l.fn.items) (declarators_at l.tokens l.calls l.budget l.storage (length l.tokens + 1) l.place) ≡ continued l.tokens l.calls l.budget l.storage
+      (unit_list_of l.items) l.height l.next turns;
   low : l.height ≤ l.budget;
   inside : l.next ≤ length l.tokens;
   further : l.place < l.next;

@@ -30,8 +30,8 @@ decreases-choice l = 6 * l.budget + 0
 abbrev pub decreases-signed : goal.decreases-signed
 decreases-signed l = 6 * l.budget + 0
 
-abbrev pub decreases-target_named : goal.decreases-target_named
-decreases-target_named l = 6 * l.budget + 0
+abbrev pub decreases-lvalue_named : goal.decreases-lvalue_named
+decreases-lvalue_named l = 6 * l.budget + 0
 
 abbrev pub decreases-grouped : goal.decreases-grouped
 decreases-grouped l = 6 * l.budget + 0

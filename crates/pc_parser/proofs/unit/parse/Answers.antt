@@ -1,14 +1,15 @@
 use Rattle.std.proofs.Common.{◌≡◌, sym, ap, ◌∙◌, subst, length}
 use Rattle.std.specs.Prelude.{Err}
 use Rattle.pc_word.specs.SourceLimits.{most_height}
-use Rattle.pc_syntax.specs.Erasure.{list_of}
+use Rattle.pc_syntax.specs.UnitErasure.{unit_list_of}
+use Rattle.pc_syntax.specs.Plain.{plain_list}
 use Rattle.pc_parser.specs.declared.unit.ParseError.TheVariants as errors
 use Rattle.pc_parser.specs.models.Outcome.{Parsed}
 use Rattle.pc_parser.specs.models.StatementParser.{program_at}
 use Rattle.pc_parser.specs.models.Parsing.{FailsParsing}
 use Rattle.pc_parser.specs.Parse.{RefusesTokens}
 use Rattle.pc_parser.specs.models.Parsing.{FailsInside, located}
-use Rattle.pc_parser.proofs.Top.{gives-read, fails-inside, syntax-told, nested-told, refused-none}
+use Rattle.pc_parser.proofs.Top.{ReadsAlone, programs, program-alone, program-read, program-no_calls, fails-inside, syntax-told, nested-told, refused-none}
 use Rattle.pc_parser.proofs.unit.parse.Goals as goal
 
 -- a failure's place is among the tokens
@@ -16,22 +17,29 @@ pub located-requires-clause-inside : goal.located-requires-clause-inside
 located-requires-clause-inside c =
     let fails : FailsParsing c.in-Err.failure (program_at c.args.tokens.now most_height) =
     subst (λ tokens. FailsParsing c.in-Err.failure (program_at tokens most_height)) c.as_slice.ensures c.in-Err.ensures in
-    subst (λ tokens. FailsInside c.in-Err.failure (length tokens)) (sym c.as_slice-in-Err.ensures) (fails-inside c.args.tokens.now c.in-Err.failure fails)
+    subst (λ tokens. FailsInside c.in-Err.failure (length tokens)) (sym c.as_slice-in-Err.ensures) (fails-inside program_at ReadsAlone programs c.args.tokens.now c.in-Err.failure fails)
 
--- what is given is read
+-- what is given is read, and has no calls
 pub returns-in-Ok-clause-read : goal.returns-in-Ok-clause-read
 returns-in-Ok-clause-read c =
     let parsed = c.in-Ok.parsed in
-    gives-read c.args.tokens.now (list_of parsed.tree) parsed.height parsed.next
-    (subst (λ tokens. program_at tokens most_height ≡ Parsed (list_of parsed.tree) parsed.height parsed.next) c.as_slice.ensures c.in-Ok.ensures)
+    program-read c.args.tokens.now parsed.tree parsed.height parsed.next
+    (subst (λ tokens. program_at tokens most_height ≡ Parsed (unit_list_of parsed.tree) parsed.height parsed.next) c.as_slice.ensures c.in-Ok.ensures)
+
+pub returns-in-Ok-clause-plain : goal.returns-in-Ok-clause-plain
+returns-in-Ok-clause-plain c =
+    let parsed = c.in-Ok.parsed in
+    program-no_calls c.args.tokens.now parsed.tree parsed.height parsed.next
+    (subst (λ tokens. program_at tokens most_height ≡ Parsed (unit_list_of parsed.tree) parsed.height parsed.next) c.as_slice.ensures c.in-Ok.ensures)
 
 -- a refusal comes only where there is no such program
 pub returns-in-Err-clause-refused : goal.returns-in-Err-clause-refused
-returns-in-Err-clause-refused c = λ refuses.
+returns-in-Err-clause-refused c = λ refuses program read.
     let fails : FailsParsing c.in-Err.failure (program_at c.args.tokens.now most_height) =
     subst (λ tokens. FailsParsing c.in-Err.failure (program_at tokens most_height)) c.as_slice.ensures c.in-Err.ensures in
-    refused-none c.args.tokens.now c.in-Err.failure
-    (λ memory. subst (λ error. RefusesTokens (Err error)) (c.located.ensures ∙ ap (located c.as_slice-in-Err.result.now) memory) refuses) fails
+    refused-none program_at ReadsAlone programs c.args.tokens.now c.in-Err.failure
+    (λ memory. subst (λ error. RefusesTokens (Err error)) (c.located.ensures ∙ ap (located c.as_slice-in-Err.result.now) memory) refuses) fails (plain_list program.items) read.0 read.1
+    (program-alone c.args.tokens.now program read.0 read.2)
 
 -- where a syntax error is told
 pub returns-in-Err-clause-syntax : goal.returns-in-Err-clause-syntax
@@ -39,7 +47,9 @@ returns-in-Err-clause-syntax c = λ at line is.
     let fails : FailsParsing c.in-Err.failure (program_at c.args.tokens.now most_height) =
     subst (λ tokens. FailsParsing c.in-Err.failure (program_at tokens most_height)) c.as_slice.ensures c.in-Err.ensures in
     let told : c.located.result ≡ errors.Syntax at line = cc in
-    syntax-told c.args.tokens.now c.in-Err.failure at line fails (ap (λ tokens. located tokens c.in-Err.failure) (sym c.as_slice-in-Err.ensures) ∙ sym c.located.ensures ∙ told)
+    let told' = syntax-told program_at ReadsAlone programs c.args.tokens.now c.in-Err.failure at line fails
+    (ap (λ tokens. located tokens c.in-Err.failure) (sym c.as_slice-in-Err.ensures) ∙ sym c.located.ensures ∙ told) in
+    (told'.0, λ others program height agree reads. told'.1 others (plain_list program.items) height agree (program-alone others program height reads))
 
 -- where too much height is told
 pub returns-in-Err-clause-too_nested : goal.returns-in-Err-clause-too_nested
@@ -47,4 +57,6 @@ returns-in-Err-clause-too_nested c = λ at line is.
     let fails : FailsParsing c.in-Err.failure (program_at c.args.tokens.now most_height) =
     subst (λ tokens. FailsParsing c.in-Err.failure (program_at tokens most_height)) c.as_slice.ensures c.in-Err.ensures in
     let told : c.located.result ≡ errors.TooNested at line = cc in
-    nested-told c.args.tokens.now c.in-Err.failure at line fails (ap (λ tokens. located tokens c.in-Err.failure) (sym c.as_slice-in-Err.ensures) ∙ sym c.located.ensures ∙ told)
+    let told' = nested-told program_at ReadsAlone programs c.args.tokens.now c.in-Err.failure at line fails
+    (ap (λ tokens. located tokens c.in-Err.failure) (sym c.as_slice-in-Err.ensures) ∙ sym c.located.ensures ∙ told) in
+    (told'.0, (λ others program height agree low reads. told'.1 others (plain_list program.items) height agree low (program-alone others program height reads)), told'.2)

@@ -1,19 +1,19 @@
 use Rattle.std.proofs.Common.{◌≡◌, ℕ, ◌+◌, ◌<◌, List, [], ◌∷◌, ◌++◌, length, take, get_or}
 use Rattle.std.proofs.lemmas.List.{take_more}
 use Rattle.pc_syntax.specs.declared.statement.Stmt.{Stmt}
-use Rattle.pc_syntax.specs.Erasure.{list_of, statement_of}
-use Rattle.pc_syntax.proofs.ErasureLaws.{statement_of-For, list_of-push}
+use Rattle.pc_syntax.specs.UnitErasure.{unit_list_of, unit_statement_of}
+use Rattle.pc_syntax.proofs.UnitLaws.{unit_statement_of-For, unit_list_of-push}
 use Rattle.pc_syntax.proofs.Copies.{copied_as}
 use Rattle.pc_syntax.proofs.statement.+copy_statement.Goals as goal
 
 -- one more copy stands for one more statement
 one_more : (from copies longer : List Stmt) (i : ℕ) (item copy : Stmt) → i < length from → item ≡ get_or from i item →
-    statement_of copy ≡ statement_of item → list_of copies ≡ list_of (take i from) → longer ≡ copies ++ copy ∷ [] →
-    list_of longer ≡ list_of (take (i + 1) from)
+    unit_statement_of copy ≡ unit_statement_of item → unit_list_of copies ≡ unit_list_of (take i from) → longer ≡ copies ++ copy ∷ [] →
+    unit_list_of longer ≡ unit_list_of (take (i + 1) from)
 one_more from copies longer i item copy below read copied so_far pushed =
     let one = take_more from i item below in
-    let front = list_of-push (take i from) (get_or from i item) in
-    let made = list_of-push copies copy in
+    let front = unit_list_of-push (take i from) (get_or from i item) in
+    let made = unit_list_of-push copies copy in
     cc
 
 pub copy_list-loop-item-preserved : goal.copy_list-loop-item-preserved
@@ -27,7 +27,7 @@ copy_list-loop-item-preserved t c =
 -- a copied `for` stands for the one that it was copied from
 pub copy_statement-returns-in_ok-step-in-For : goal.copy_statement-returns-in_ok-step-in-For
 copy_statement-returns-in_ok-step-in-For t c =
-    let was = statement_of-For c.args.from.now c.in-For.line c.in-For.first c.in-For.test c.in-For.step c.in-For.body c.in-For.is in
+    let was = unit_statement_of-For c.args.from.now c.in-For.line c.in-For.first c.in-For.test c.in-For.step c.in-For.body c.in-For.is in
     let first = c.in_ok-first-in-For.ensures in
     let step = c.in_ok-step-in-For.ensures in
     let borrowed = c.deref-in-For.ensures in

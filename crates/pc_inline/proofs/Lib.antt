@@ -1,0 +1,12 @@
+pub mod Rows
+pub mod Firsts
+pub mod Finds
+pub mod Refused
+pub mod Sizing
+pub mod Alike
+pub mod TableLaws
+pub mod Lists
+pub mod Copied
+pub mod Offsets
+pub mod Answer
+pub mod Rules
