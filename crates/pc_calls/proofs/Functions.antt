@@ -189,7 +189,7 @@ shown-same (returns a f) = refl
 shown-same (traps kind line a f) = refl
 shown-same (spends a f) = refl
 
--- a source shows what the program without calls shows
+-- a unit shows what its inlined program shows
 pub inlined-same : (base : ℕ) (unit : TranslationUnit) → unit_is_proper base unit ≡ true → refusals unit ≡ [] → faults (inlined_program base unit) ≡ [] → (input : List ℤ) (n : ℕ) →
     source_run (resolved (inlined_program base unit)) input n ≡ call_run unit input n
 unfolding source_run outcome_of call_run unit_outcome

@@ -1,4 +1,4 @@
--- What is counted of the source is the size of the program without calls.
+-- What is counted of a unit is the size of its inlined program.
 use Rattle.std.proofs.Common.{◌≡◌, ℕ, suc, ◌+◌, max, Bool, true, false, List, [], ◌∷◌, ◌++◌, map, Option, Some, None, option_map, refl, sym, ap, ◌∙◌, subst, arith, nat_eq, length}
 use Rattle.std.specs.Prelude.{if◌then◌else◌, reverse}
 use Rattle.std.proofs.lemmas.List.{reverse-append}
@@ -308,7 +308,7 @@ reverse-proper base (f ∷ fs) proper =
     subst (λ (x : List UnitFunction). functions_are_proper base x ≡ true) (sym (reverse-append (f ∷ []) fs))
     (proper-append base (reverse fs) (f ∷ []) (reverse-proper base fs both.1) (and_made (function_is_proper base f) true both.0 refl))
 
--- what is counted of a source is the size of its program without calls
+-- what is counted of a unit is the size of its inlined program
 pub unit-measured : (base : ℕ) (unit : TranslationUnit) → unit_is_proper base unit ≡ true → list_measure (inlined_program base unit).items ≡ unit_size unit
 unit-measured base unit proper =
     let both = and_true (functions_are_proper base unit.functions) (list_is_proper base unit.main) proper in

@@ -1,4 +1,4 @@
--- A unit without functions is its own program without calls.
+-- A unit without functions inlines to its own program.
 use Rattle.std.proofs.Common.{◌≡◌, ℕ, false, [], Option, Some, None, refl, ap, ◌∙◌}
 use Rattle.pc_syntax.specs.Source.{SourceExpression, SourceStatement, Scope, ScalarDeclaration, ArrayDeclaration, Assignment, Printing, Evaluation, Branch, WhileLoop}
 use Rattle.pc_syntax.specs.Source.{Literal, Variable, Input, Indexed, Prefixed, Combined, Conjunction, Disjunction, Conditional}

@@ -1,4 +1,4 @@
--- A unit without functions means what the program means, and is that program once its calls are replaced.
+-- A unit without functions means what the program means, and inlines to that program.
 use Rattle.std.proofs.Common.{◌≡◌, ℕ, false, List, [], Option, refl, ap, ◌∙◌}
 use Rattle.std.specs.Prelude.{ℤ}
 use Rattle.pc_syntax.specs.Source.{SourceStatement, Scope, ScalarDeclaration, ArrayDeclaration, Assignment, Printing, Evaluation, Branch, WhileLoop}

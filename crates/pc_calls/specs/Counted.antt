@@ -1,4 +1,4 @@
--- What the program without calls comes to, counted of the unit alone: each function once, and so without that program.
+-- The size of the inlined program, counted of the unit alone: each function once, and so without that program.
 use Rattle.std.specs.Prelude.{ℕ, zero, suc, Bool, true, false, Option, Some, None, option_map, List, [], ◌∷◌, if◌then◌else◌, nat_eq, reverse, length}
 use Rattle.pc_syntax.specs.Source.{SourceExpression}
 use Rattle.pc_syntax.specs.declared.unit.Target.{Target}
@@ -84,6 +84,6 @@ function_sizes (last ∷ earlier) symbol =
       result = option_map extent last.result;
     }) else function_sizes earlier symbol
 
--- the size of the program without calls
+-- the size of the inlined program
 abbrev pub unit_size : TranslationUnit → Size
 unit_size unit = counted_list (function_sizes (reverse unit.functions)) false unit.main

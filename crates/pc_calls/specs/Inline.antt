@@ -160,6 +160,6 @@ copies base (last ∷ earlier) depth symbol =
 abbrev pub main_site : ℕ → List UnitFunction → Site
 main_site base functions = record { copies = copies base functions 1; rename = copied base 0; in_function = false }
 
--- the program without calls
+-- the inlined program of a unit
 abbrev pub inlined_program : ℕ → TranslationUnit → SourceProgram
 inlined_program base unit = record { items = inlined_list (main_site base (reverse unit.functions)) unit.main }

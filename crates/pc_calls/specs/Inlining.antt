@@ -1,4 +1,4 @@
--- What is answered where calls are to be replaced: the program without calls, or why there is none.
+-- What inlining answers: the inlined program of a unit, or why there is none.
 use Rattle.std.specs.Prelude.{ℕ, ◌+◌, ◌||◌, List, ◌++◌, nat_lt, Result}
 use Rattle.pc_word.specs.SourceLimits.{most_height}
 use Rattle.pc_word.specs.Exact.{checked}
@@ -12,22 +12,28 @@ use Rattle.pc_calls.specs.Measures.{Size, list_measure}
 abbrev pub symbol_bound : ℕ
 symbol_bound = 65536
 
--- the statements of a program without calls
+-- the statements that an inlined program may have
 abbrev pub most_statements : ℕ
 most_statements = 65536
 
--- the nodes of its expressions
+-- the nodes of expressions that it may have
 abbrev pub most_expression_nodes : ℕ
 most_expression_nodes = 262144
 
--- The refusals of a program for its size. The block of `main` is none of its statements, but is as high as they are and one more.
+-- The refusals of an inlined program for its size. The block of `main` is none of its statements, but is as high as they are and one more.
 abbrev pub size_refusals : Size → List Refusal
 size_refusals size =
     refused_if (nat_lt most_statements size.count || nat_lt most_expression_nodes size.nodes) TooBig
     ++ refused_if (nat_lt most_height (1 + size.height)) TooHigh
 
--- the program of a unit without calls, or the first refusal: those of the text in its order, and then those for the size
+-- the inlined program of a unit whose symbols are below that bound
+abbrev pub inlined_unit : TranslationUnit → SourceProgram
+inlined_unit unit = inlined_program symbol_bound unit
+
+-- why a unit cannot be inlined: the refusals of its text in their order, and then those of the inlined program for its size
+abbrev pub unit_refusals : TranslationUnit → List Refusal
+unit_refusals unit = refusals unit ++ size_refusals (list_measure (inlined_unit unit).items)
+
+-- the inlined program of a unit, or the first of its refusals
 abbrev pub inlining : TranslationUnit → Result SourceProgram Refusal
-inlining unit =
-    let program = inlined_program symbol_bound unit in
-    checked (refusals unit ++ size_refusals (list_measure program.items)) program
+inlining unit = checked (unit_refusals unit) (inlined_unit unit)

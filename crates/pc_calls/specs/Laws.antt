@@ -13,7 +13,7 @@ use Rattle.pc_syntax.specs.Source.{SourceProgram}
 use Rattle.pc_calls.specs.Measures.{list_measure}
 use Rattle.pc_calls.specs.Counted.{unit_size}
 
--- a unit that is not refused, and whose program without calls has no faults, shows what this program shows
+-- a unit that is not refused, and whose inlined program has no faults, shows what this program shows
 abbrev pub InliningKeepsRuns : Type 0
 InliningKeepsRuns =
     (base : ℕ) (unit : TranslationUnit) → unit_is_proper base unit ≡ true → refusals unit ≡ [] → faults (inlined_program base unit) ≡ []
@@ -23,10 +23,10 @@ InliningKeepsRuns =
 abbrev pub PlainSourcesRunAsPrograms : Type 0
 PlainSourcesRunAsPrograms = (program : SourceProgram) (input : List ℤ) (n : ℕ) → call_run (plain_unit program) input n ≡ source_run (resolved program) input n
 
--- what is counted of a unit is the size of its program without calls
+-- what is counted of a unit is the size of its inlined program
 abbrev pub SizesAreCounted : Type 0
 SizesAreCounted = (base : ℕ) (unit : TranslationUnit) → unit_is_proper base unit ≡ true → list_measure (inlined_program base unit).items ≡ unit_size unit
 
--- a unit without functions is its own program without calls
+-- a unit without functions inlines to its own program
 abbrev pub PlainSourcesStay : Type 0
 PlainSourcesStay = (base : ℕ) (program : SourceProgram) → inlined_program base (plain_unit program) ≡ program

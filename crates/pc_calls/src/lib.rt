@@ -1,4 +1,4 @@
-//! What a translation unit with functions does, and its program without calls, which does the same.
+//! What a translation unit with functions does, and its inlined program, which does the same.
 //!
 //! Everything here is a definition in `specs/`, over the units without pointers of `pc_syntax`.
 #![tactic(auto)]

@@ -8,7 +8,7 @@ use thiserror::Error;
 /// Why calls cannot be replaced, with the line of what is refused.
 ///
 /// What has a line is refused at the first place of the text, over all functions and `main`. The size of
-/// the program without calls is looked at where nothing in the text is refused.
+/// the inlined program's size is looked at where nothing in the text is refused.
 #[derive(Clone, Copy, Debug, PartialEq, Eq, Error)]
 pub enum InlineError {
     /// A function with the name of an earlier one. The line is that of the name.
@@ -30,11 +30,11 @@ pub enum InlineError {
     /// name.
     #[error("wrong number of arguments at line {line}")]
     Arguments { line: u32 },
-    /// A program without calls of more than 65,536 statements, or with more than 262,144 nodes of
+    /// An inlined program of more than 65,536 statements, or with more than 262,144 nodes of
     /// expressions.
     #[error("inlined program too big")]
     TooBig,
-    /// A program without calls that is higher than 256.
+    /// An inlined program that is higher than 256.
     #[error("inlined program too high")]
     TooHigh,
     /// Memory ran out.

@@ -1,5 +1,5 @@
-//! Functions by inlining: a translation unit becomes one program without calls, in which each function
-//! stands in the place of each of its calls.
+//! Functions by inlining: a translation unit becomes one program without calls, its inlined program, in
+//! which each function stands in the place of each of its calls.
 #![tactic(auto)]
 
 mod copying;

@@ -14,7 +14,7 @@ use pc_syntax::{Function, SourceUnit};
 use pc_word::Seq;
 use std::alloc::{AllocError, Global};
 
-/// The statements that a program without calls may have.
+/// The statements that an inlined program may have.
 const MOST_STATEMENTS: u32 = 65_536;
 
 /// The nodes that its expressions may have.
@@ -53,7 +53,7 @@ fn function_sizes(alloc: Global, functions: &[Function]) -> Result<Seq<FunctionS
     Ok(sizes)
 }
 
-/// The size of the program without calls, counted of the unit alone.
+/// The size of the inlined program, counted of the unit alone.
 pub(crate) fn unit_size(alloc: Global, unit: &SourceUnit) -> Result<Size, AllocError>
     ensures { IfOk result (λ size. IsSize size (counted.unit_size (unit_of unit.now))) }
 {
@@ -62,7 +62,7 @@ pub(crate) fn unit_size(alloc: Global, unit: &SourceUnit) -> Result<Size, AllocE
     Ok(list_size(&unit.main.items, functions, sizes.as_slice(), false))
 }
 
-/// Refuses a program without calls for its size.
+/// Refuses an inlined program for its size.
 pub(crate) fn refuse_size(size: Size) -> Result<(), InlineError>
     ensures passed { (is : of.Size) → IsSize size is → OnOk result (size_refusals is ≡ []) }
     ensures refused { (is : of.Size) → IsSize size is → IfErr result (λ e. IsFirst e (size_refusals is)) }

@@ -10,7 +10,7 @@ use Rattle.pc_lexer.specs.Tokens.{lexed, lex_cause}
 use Rattle.pc_syntax.specs.Source.{SourceProgram, ResolvedProgram}
 use Rattle.pc_syntax.specs.Proper.{unit_is_proper}
 use Rattle.pc_syntax.specs.Unit.{TranslationUnit}
-use Rattle.pc_calls.specs.Inlining.{inlining, symbol_bound}
+use Rattle.pc_calls.specs.Inlining.{inlined_unit, inlining, symbol_bound, unit_refusals}
 use Rattle.pc_calls.specs.Refusals.{Refusal}
 use Rattle.pc_inline.specs.declared.error.InlineError.{InlineError}
 use Rattle.pc_inline.specs.Inlined.{inline_cause}
@@ -24,7 +24,7 @@ use Rattle.pc_check.specs.Checks.{check_cause}
 use Rattle.pc_check.specs.Faults.{faults}
 use Rattle.pc_check.specs.Resolution.{resolved}
 use Rattle.pc_check.proofs.ExactLaws.{refused-first}
-use Rattle.pc_tool.specs.Source.{IsRead, unit_refusals, written_out}
+use Rattle.pc_tool.specs.Source.{IsRead}
 use Rattle.pc_tool.specs.SourceFaults.{Uncut, Unread, Nested, Uncallable, Faulty, told_of_call}
 use Rattle.pc_tool.specs.models.Refusals.{refusal_of, refusal_of_lex, refusal_of_parse, refusal_of_inline, refusal_of_check}
 use Rattle.pc_tool.specs.models.Translating.{IsChecked, RefusesText}
@@ -58,21 +58,21 @@ told_first (Some why) (first ∷ others) program text unit read same is =
     let one : first ≡ why = cc in
     Uncallable read (ap (λ (list : List Refusal). slice_get list 0) same ∙ ap Some one) refl
 
--- a unit whose calls cannot be written out
+-- a unit that cannot be inlined
 pub uncalled : (error : InlineError) (text : List ℕ) (unit : TranslationUnit) → IsRead text unit
     → IsRefusal (inline_cause error) (inlining unit) → RefusesText (refusal_of_inline error) text
-uncalled error text unit read is = told_first (inline_cause error) (unit_refusals unit) (written_out unit) text unit read refl is
+uncalled error text unit read is = told_first (inline_cause error) (unit_refusals unit) (inlined_unit unit) text unit read refl is
 
 -- what is given has no faults, and is what was checked
 given_checked : {X F : Type 0} (all : List F) (found given : X) → checked all found ≡ Ok given → (all ≡ []) × (found ≡ given)
 given_checked [] found given is = (refl, cc)
 given_checked (first ∷ others) found given is = absurd cc
 
--- a unit whose calls are written out has no refusal, and that is its program
-pub written : (unit : TranslationUnit) (given : SourceProgram) → inlining unit ≡ Ok given → (unit_refusals unit ≡ []) × (written_out unit ≡ given)
-written unit given is = given_checked (unit_refusals unit) (written_out unit) given is
+-- a unit that can be inlined has no refusal, and what is given is its inlined program
+pub written : (unit : TranslationUnit) (given : SourceProgram) → inlining unit ≡ Ok given → (unit_refusals unit ≡ []) × (inlined_unit unit ≡ given)
+written unit given is = given_checked (unit_refusals unit) (inlined_unit unit) given is
 
--- a text that is read, whose calls are written out, and that is checked
+-- a text that is read, inlined and checked
 pub is_checked : (text : List ℕ) (unit : TranslationUnit) (program : SourceProgram) (found : ResolvedProgram) → IsRead text unit
     → unit_is_proper symbol_bound unit ≡ true → inlining unit ≡ Ok program → checked (faults program) (resolved program) ≡ Ok found → IsChecked text found
 is_checked text unit program found read proper inlined is =
@@ -89,16 +89,16 @@ is_checked text unit program found read proper inlined is =
 
 -- a program with a fault
 pub refused : (error : CheckError) (text : List ℕ) (unit : TranslationUnit) → IsRead text unit → unit_refusals unit ≡ []
-    → IsRefusal (check_cause error) (checked (faults (written_out unit)) (resolved (written_out unit))) → RefusesText (refusal_of_check error) text
+    → IsRefusal (check_cause error) (checked (faults (inlined_unit unit)) (resolved (inlined_unit unit))) → RefusesText (refusal_of_check error) text
 refused check.Memory text unit read callable is = tt
-refused (check.Undeclared line) text unit read callable is = Faulty read callable (refused-first (check.Undeclared line) (faults (written_out unit)) (resolved (written_out unit)) is) refl
-refused (check.Redeclared line) text unit read callable is = Faulty read callable (refused-first (check.Redeclared line) (faults (written_out unit)) (resolved (written_out unit)) is) refl
-refused (check.NotArray line) text unit read callable is = Faulty read callable (refused-first (check.NotArray line) (faults (written_out unit)) (resolved (written_out unit)) is) refl
-refused (check.NotScalar line) text unit read callable is = Faulty read callable (refused-first (check.NotScalar line) (faults (written_out unit)) (resolved (written_out unit)) is) refl
-refused (check.BadSize line) text unit read callable is = Faulty read callable (refused-first (check.BadSize line) (faults (written_out unit)) (resolved (written_out unit)) is) refl
-refused (check.OutsideLoop line) text unit read callable is = Faulty read callable (refused-first (check.OutsideLoop line) (faults (written_out unit)) (resolved (written_out unit)) is) refl
-refused (check.TooManyScalars line) text unit read callable is = Faulty read callable (refused-first (check.TooManyScalars line) (faults (written_out unit)) (resolved (written_out unit)) is) refl
-refused (check.TooManyArrays line) text unit read callable is = Faulty read callable (refused-first (check.TooManyArrays line) (faults (written_out unit)) (resolved (written_out unit)) is) refl
-refused (check.TooManyElements line) text unit read callable is = Faulty read callable (refused-first (check.TooManyElements line) (faults (written_out unit)) (resolved (written_out unit)) is) refl
-refused (check.TooManyValues line) text unit read callable is = Faulty read callable (refused-first (check.TooManyValues line) (faults (written_out unit)) (resolved (written_out unit)) is) refl
-refused (check.TooDeep line) text unit read callable is = Faulty read callable (refused-first (check.TooDeep line) (faults (written_out unit)) (resolved (written_out unit)) is) refl
+refused (check.Undeclared line) text unit read callable is = Faulty read callable (refused-first (check.Undeclared line) (faults (inlined_unit unit)) (resolved (inlined_unit unit)) is) refl
+refused (check.Redeclared line) text unit read callable is = Faulty read callable (refused-first (check.Redeclared line) (faults (inlined_unit unit)) (resolved (inlined_unit unit)) is) refl
+refused (check.NotArray line) text unit read callable is = Faulty read callable (refused-first (check.NotArray line) (faults (inlined_unit unit)) (resolved (inlined_unit unit)) is) refl
+refused (check.NotScalar line) text unit read callable is = Faulty read callable (refused-first (check.NotScalar line) (faults (inlined_unit unit)) (resolved (inlined_unit unit)) is) refl
+refused (check.BadSize line) text unit read callable is = Faulty read callable (refused-first (check.BadSize line) (faults (inlined_unit unit)) (resolved (inlined_unit unit)) is) refl
+refused (check.OutsideLoop line) text unit read callable is = Faulty read callable (refused-first (check.OutsideLoop line) (faults (inlined_unit unit)) (resolved (inlined_unit unit)) is) refl
+refused (check.TooManyScalars line) text unit read callable is = Faulty read callable (refused-first (check.TooManyScalars line) (faults (inlined_unit unit)) (resolved (inlined_unit unit)) is) refl
+refused (check.TooManyArrays line) text unit read callable is = Faulty read callable (refused-first (check.TooManyArrays line) (faults (inlined_unit unit)) (resolved (inlined_unit unit)) is) refl
+refused (check.TooManyElements line) text unit read callable is = Faulty read callable (refused-first (check.TooManyElements line) (faults (inlined_unit unit)) (resolved (inlined_unit unit)) is) refl
+refused (check.TooManyValues line) text unit read callable is = Faulty read callable (refused-first (check.TooManyValues line) (faults (inlined_unit unit)) (resolved (inlined_unit unit)) is) refl
+refused (check.TooDeep line) text unit read callable is = Faulty read callable (refused-first (check.TooDeep line) (faults (inlined_unit unit)) (resolved (inlined_unit unit)) is) refl

@@ -19,7 +19,8 @@ use Rattle.pc_check.specs.Faults.{faults}
 use Rattle.pc_check.specs.Sizes.{size}
 use Rattle.pc_report.specs.declared.fault.SourceFault.{SourceFault}
 use Rattle.pc_driver.proofs.Results.{ok_same}
-use Rattle.pc_tool.specs.Source.{IsRead, IsNoSource, unit_refusals, written_out}
+use Rattle.pc_calls.specs.Inlining.{inlined_unit, unit_refusals}
+use Rattle.pc_tool.specs.Source.{IsRead, IsNoSource}
 use Rattle.pc_calls.specs.Refusals.{Refusal}
 use Rattle.pc_tool.specs.SourceFaults.{HasFault, Long, Uncut, Unread, Nested, Uncallable, Faulty, Large}
 
@@ -51,7 +52,7 @@ unread_is_none text tokens cut nothing unit source =
     let same : source.read.tokens ≡ tokens = ok_same source.read.tokens tokens (lexed text) source.read.cut cut in
     nothing unit (subst (λ tokens. IsUnitReadWithin most_height tokens unit) same source.read.read)
 
--- a text whose calls cannot be written out
+-- a text whose unit cannot be inlined
 uncallable_is_none : (text : List ℕ) (found : TranslationUnit) (why : Refusal) → IsRead text found → slice_get (unit_refusals found) 0 ≡ Some why → IsNoSource text
 uncallable_is_none text found why read first unit source =
     let same : found ≡ unit = read_once text found unit read source.read in
@@ -60,18 +61,18 @@ uncallable_is_none text found why read first unit source =
     cc
 
 -- a text whose program has a fault
-faulty_is_none : (text : List ℕ) (found : TranslationUnit) (error : CheckError) → IsRead text found → slice_get (faults (written_out found)) 0 ≡ Some error → IsNoSource text
+faulty_is_none : (text : List ℕ) (found : TranslationUnit) (error : CheckError) → IsRead text found → slice_get (faults (inlined_unit found)) 0 ≡ Some error → IsNoSource text
 faulty_is_none text found error read first unit source =
     let same : found ≡ unit = read_once text found unit read source.read in
-    let none : faults (written_out found) ≡ [] = ap (λ (u : TranslationUnit). faults (written_out u)) same ∙ source.faultless in
+    let none : faults (inlined_unit found) ≡ [] = ap (λ (u : TranslationUnit). faults (inlined_unit u)) same ∙ source.faultless in
     let nothing : slice_get [] 0 ≡ Some error = subst (λ list. slice_get list 0 ≡ Some error) none first in
     cc
 
 -- a text whose program has too large a flow graph
-large_is_none : (text : List ℕ) (found : TranslationUnit) → IsRead text found → most_nodes < size (written_out found) → IsNoSource text
+large_is_none : (text : List ℕ) (found : TranslationUnit) → IsRead text found → most_nodes < size (inlined_unit found) → IsNoSource text
 large_is_none text found read many unit source =
     let same : found ≡ unit = read_once text found unit read source.read in
-    let few : size (written_out found) ≤ most_nodes = subst (λ (u : TranslationUnit). size (written_out u) ≤ most_nodes) (sym same) source.few_nodes in
+    let few : size (inlined_unit found) ≤ most_nodes = subst (λ (u : TranslationUnit). size (inlined_unit u) ≤ most_nodes) (sym same) source.few_nodes in
     omega (arith, few, many)
 
 -- a text with a fault is no source

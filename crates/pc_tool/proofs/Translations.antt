@@ -28,9 +28,8 @@ use Rattle.pc_object.specs.ObjectText.{CodeWithNotes, object_of, object_text}
 use Rattle.pc_tool.specs.declared.translation.Translation.{Translation}
 use Rattle.pc_tool.specs.Compilation.{Translates}
 use Rattle.pc_tool.specs.Meaning.{meaning_of}
-use Rattle.pc_tool.specs.Source.{written_out}
 use Rattle.pc_check.specs.Resolution.{resolved}
-use Rattle.pc_calls.specs.Inlining.{symbol_bound}
+use Rattle.pc_calls.specs.Inlining.{inlined_unit, symbol_bound}
 use Rattle.pc_calls.specs.Refusals.{Refusal, refusals}
 use Rattle.pc_calls.proofs.Functions.{inlined-same}
 use Rattle.pc_tool.specs.SourceFaults.{Large}
@@ -38,8 +37,8 @@ use Rattle.pc_tool.specs.models.Refusals.{refusal_of_compile}
 use Rattle.pc_tool.specs.models.Translating.{IsChecked, IsTranslation, RefusesText}
 
 -- a program has as many nodes as with numbers for names
-pub sized : (text : List ℕ) (checked : ResolvedProgram) (h : IsChecked text checked) → resolved_size checked ≡ size (written_out h.unit)
-sized text checked h = ap resolved_size (sym h.is_resolved) ∙ size-resolved (written_out h.unit)
+pub sized : (text : List ℕ) (checked : ResolvedProgram) (h : IsChecked text checked) → resolved_size checked ≡ size (inlined_unit h.unit)
+sized text checked h = ap resolved_size (sym h.is_resolved) ∙ size-resolved (inlined_unit h.unit)
 
 -- rows that are all reachable are so by their numbers
 reachable : (rows : List CodeRow) → EachIsReachable rows → (row : ℕ) → row < length rows → IsReachable rows row
@@ -62,7 +61,7 @@ front_none (first ∷ front) rest none = absurd cc
 -- what agrees with a checked text's program agrees with the meaning of its unit
 agrees : (text : List ℕ) (checked : ResolvedProgram) (h : IsChecked text checked) (run : List ℤ → Run) → AgreeOnInputs (source_run checked) run → AgreeOnInputs (meaning_of h.unit) run
 agrees text checked h run agree =
-    agree_as (source_run (resolved (written_out h.unit))) (meaning_of h.unit) run
+    agree_as (source_run (resolved (inlined_unit h.unit))) (meaning_of h.unit) run
     (inlined-same symbol_bound h.unit h.proper (front_none (refusals h.unit) _ h.callable) h.faultless)
     (subst (λ (program : ResolvedProgram). AgreeOnInputs (source_run program) run) (sym h.is_resolved) agree)
 

@@ -15,7 +15,8 @@ use Rattle.pc_tool.specs.Files.{HasSource}
 use Rattle.pc_tool.specs.Meaning.{Same}
 use Rattle.pc_driver.specs.Objects.{Loads}
 use Rattle.pc_driver.specs.Streams.{Streamed}
-use Rattle.pc_tool.specs.Source.{IsSource, written_out}
+use Rattle.pc_calls.specs.Inlining.{inlined_unit}
+use Rattle.pc_tool.specs.Source.{IsSource}
 
 -- The text is the source of this program; the object loads under the limits, with the program's arrays and their data, leaves lead to
 -- each of its rows from row 0, and it is compact; for every input of words it does what the source means.
@@ -23,8 +24,8 @@ pub record Translates (limits : Limits) (text : List ℕ) (unit : TranslationUni
   pub source : IsSource text unit
   pub loads : Loads object
   pub limited : object.code.limits ≡ limits
-  pub arrays : object.code.arrays ≡ (resolved (written_out unit)).arrays
-  pub initial : object.code.initial ≡ (resolved (written_out unit)).initial
+  pub arrays : object.code.arrays ≡ (resolved (inlined_unit unit)).arrays
+  pub initial : object.code.initial ≡ (resolved (inlined_unit unit)).initial
   pub reached : (row : ℕ) → row < length object.code.rows → IsReachable object.code.rows row
   pub compact : Compact object.code
   pub same : Same unit object.code
@@ -46,7 +47,7 @@ counts_of label changed passes = map (λ pass. record { name = label pass; chang
 -- what is reported: the size of the program, which is the number of nodes of its flow graph, the rows of the object, the
 -- passes, and the object's notes
 abbrev pub report_on : TranslationUnit → CodeWithNotes → List PassCount → Report
-report_on unit object passes = record { nodes = size (written_out unit); rows = length object.code.rows; passes = passes; notes = object.notes }
+report_on unit object passes = record { nodes = size (inlined_unit unit); rows = length object.code.rows; passes = passes; notes = object.notes }
 
 -- the report was sent where it is asked for, and else nothing
 abbrev pub Reports : Bool → Report → Streamed → Streamed → Type 0

@@ -8,7 +8,7 @@ use Rattle.pc_check.specs.Resolution.{resolved}
 use Rattle.pc_flow.specs.FlowGraph.{FlowGraph}
 use Rattle.pc_table.specs.Table.{Table}
 use Rattle.pc_table.specs.StoredTable.{table_of}
-use Rattle.pc_tool.specs.Source.{written_out}
+use Rattle.pc_calls.specs.Inlining.{inlined_unit}
 use Rattle.pc_object.specs.ObjectText.{CodeWithNotes, object_of}
 use Rattle.pc_compile.specs.declared.choice.Choice.{Choice}
 use Rattle.pc_compile.specs.declared.program.Compiled.{Compiled}
@@ -27,5 +27,5 @@ pub record IsScheduled (program : ResolvedProgram) (Passed : FlowGraph → FlowG
 -- compiled over its graph, its regions and its choices; where nothing is, over some.
 unfoldable pub IsScheduledAs : (FlowGraph → FlowGraph → Type 0) → (handed : Option Compiled) → CompileRequest → TranslationUnit → CodeWithNotes → Type 0
 IsScheduledAs Passed (Some it) request unit object =
-    (object_of it.object ≡ object) × IsCompiled (resolved (written_out unit)) Passed request.limits request.extent it.flow (table_of it.table) it.choices object
-IsScheduledAs Passed None request unit object = IsScheduled (resolved (written_out unit)) Passed request.limits request.extent object
+    (object_of it.object ≡ object) × IsCompiled (resolved (inlined_unit unit)) Passed request.limits request.extent it.flow (table_of it.table) it.choices object
+IsScheduledAs Passed None request unit object = IsScheduled (resolved (inlined_unit unit)) Passed request.limits request.extent object

@@ -16,7 +16,8 @@ use Rattle.pc_check.specs.Sizes.{size}
 use Rattle.pc_report.specs.declared.fault.SourceFault.{SourceFault}
 use Rattle.pc_report.specs.declared.fault.SourceFault.TheVariants.{TooLong, BadByte, TooManyTokens, TooLarge, InlinedTooBig, InlinedTooHigh, AtLine}
 use Rattle.pc_report.specs.declared.fault.LineFault.TheVariants as at_line
-use Rattle.pc_tool.specs.Source.{IsRead, unit_refusals, written_out}
+use Rattle.pc_calls.specs.Inlining.{inlined_unit, unit_refusals}
+use Rattle.pc_tool.specs.Source.{IsRead}
 
 -- how a fault of the tokens is reported; want of memory is none
 abbrev pub told_of_lex : LexError → Option SourceFault
@@ -26,7 +27,7 @@ told_of_lex (lex.OpenComment line) = Some (AtLine at_line.OpenComment line)
 told_of_lex lex.TooManyTokens = Some TooManyTokens
 told_of_lex lex.Memory = None
 
--- how it is reported that calls cannot be written out
+-- how it is reported that a unit cannot be inlined
 abbrev pub told_of_call : Refusal → SourceFault
 told_of_call (call.FunctionTwice line) = AtLine at_line.FunctionTwice line
 told_of_call (call.EarlyReturn line) = AtLine at_line.EarlyReturn line
@@ -82,13 +83,13 @@ pub data HasFault (text : List ℕ) : (fault : SourceFault) → Type 0 where
   Faulty : {unit : TranslationUnit} {error : CheckError} {fault : SourceFault} →
       IsRead text unit →
       unit_refusals unit ≡ [] →
-      slice_get (faults (written_out unit)) 0 ≡ Some error →
+      slice_get (faults (inlined_unit unit)) 0 ≡ Some error →
       told_of_check error ≡ Some fault →
       HasFault text fault
   Large : {unit : TranslationUnit} {nodes : ℕ} →
       IsRead text unit →
       unit_refusals unit ≡ [] →
-      faults (written_out unit) ≡ [] →
-      most_nodes < size (written_out unit) →
-      nodes ≡ min (size (written_out unit)) 4294967295 →
+      faults (inlined_unit unit) ≡ [] →
+      most_nodes < size (inlined_unit unit) →
+      nodes ≡ min (size (inlined_unit unit)) 4294967295 →
       HasFault text (TooLarge nodes)

@@ -46,7 +46,7 @@ pub(crate) fn translate<P: Pass>(
     Ok(Translation { compiled, bytes })
 }
 
-/// The program that a text is read as, with its calls written out and numbers for names, if none of these is
+/// The program that a text is read as, with its calls inlined and numbers for names, if none of these is
 /// faulty.
 fn read_program(alloc: Global, text: &[u8]) -> Result<Checked, Refusal>
     requires { length text.now ≤ most_source }

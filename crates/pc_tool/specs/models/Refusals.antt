@@ -31,7 +31,7 @@ refusal_of_parse (parse.Syntax at line) = refusal.Source (source.AtLine at_line.
 refusal_of_parse (parse.TooNested at line) = refusal.Source (source.AtLine at_line.NestedTooDeep line)
 refusal_of_parse parse.Memory = refusal.Memory
 
--- a refusal of what writes calls out
+-- a refusal of inlining
 abbrev pub refusal_of_inline : InlineError → Refusal
 refusal_of_inline error = refusal_of (option_map told_of_call (inline_cause error))
 

@@ -2,7 +2,6 @@ use Rattle.pc_syntax.specs.UnitErasure.{unit_of}
 use Rattle.pc_calls.specs.Refusals.{refusals}
 use Rattle.pc_calls.specs.Counted.{unit_size}
 use Rattle.pc_inline.proofs.Firsts.{IsFirst-front}
-use Rattle.pc_inline.proofs.Copied.{put_first}
 use Rattle.pc_inline.proofs.Answer.{given, refused_exact, first_for_size}
 use Rattle.pc_inline.proofs.inlining.inline.Goals as goal
 
@@ -19,21 +18,22 @@ returns-in_err-refuse_size-clause-exact c =
     (first_for_size c.in_err-refuse_size.field-0.0 c.args.unit.now c.requires c.in_ok-refuse_unit.ensures.passed
     (c.in_err-refuse_size.ensures.refused (unit_size (unit_of c.args.unit.now)) c.in_ok-size.ensures))
 
+-- nothing is built of a unit that is too large
+pub inlined_items-requires : goal.inlined_items-requires
+inlined_items-requires c = c.in_ok-refuse_size.ensures.passed (unit_size (unit_of c.args.unit.now)) c.in_ok-size.ensures
+
 -- the program that is made
 pub returns-clause-exact : goal.returns-clause-exact
 returns-clause-exact c =
-    let made = put_first c.new-items.result _ _ c.new-items.ensures (rw c.as_slice.ensures at c.in_ok-copy_items.ensures) in
-    (given c.args.unit.now c.copy_items.new.into c.requires c.in_ok-refuse_unit.ensures.passed
-    (c.in_ok-refuse_size.ensures.passed (unit_size (unit_of c.args.unit.now)) c.in_ok-size.ensures) made).exact
+    (given c.args.unit.now c.in_ok-items.items c.requires c.in_ok-refuse_unit.ensures.passed
+    (c.in_ok-refuse_size.ensures.passed (unit_size (unit_of c.args.unit.now)) c.in_ok-size.ensures) c.in_ok-items.ensures).exact
 
 pub returns-clause-plain : goal.returns-clause-plain
 returns-clause-plain c =
-    let made = put_first c.new-items.result _ _ c.new-items.ensures (rw c.as_slice.ensures at c.in_ok-copy_items.ensures) in
-    (given c.args.unit.now c.copy_items.new.into c.requires c.in_ok-refuse_unit.ensures.passed
-    (c.in_ok-refuse_size.ensures.passed (unit_size (unit_of c.args.unit.now)) c.in_ok-size.ensures) made).plain
+    (given c.args.unit.now c.in_ok-items.items c.requires c.in_ok-refuse_unit.ensures.passed
+    (c.in_ok-refuse_size.ensures.passed (unit_size (unit_of c.args.unit.now)) c.in_ok-size.ensures) c.in_ok-items.ensures).plain
 
 pub returns-clause-same : goal.returns-clause-same
 returns-clause-same c =
-    let made = put_first c.new-items.result _ _ c.new-items.ensures (rw c.as_slice.ensures at c.in_ok-copy_items.ensures) in
-    (given c.args.unit.now c.copy_items.new.into c.requires c.in_ok-refuse_unit.ensures.passed
-    (c.in_ok-refuse_size.ensures.passed (unit_size (unit_of c.args.unit.now)) c.in_ok-size.ensures) made).same
+    (given c.args.unit.now c.in_ok-items.items c.requires c.in_ok-refuse_unit.ensures.passed
+    (c.in_ok-refuse_size.ensures.passed (unit_size (unit_of c.args.unit.now)) c.in_ok-size.ensures) c.in_ok-items.ensures).same

@@ -1,5 +1,5 @@
--- The tokens are few enough to be parsed, their symbols are small enough for calls to be written out, and what refuses a step is a fault
--- of the text.
+-- The tokens are few enough to be parsed, their symbols are small enough for calls to be inlined, and what refuses a step is a fault of
+-- the text.
 use Rattle.std.proofs.Common.{◌≡◌, sym, subst, ◌∙◌, ap}
 use Rattle.std.proofs.lemmas.Result.{err_from_is_err_and}
 use Rattle.pc_lexer.proofs.Numbering.{numbers_names}
