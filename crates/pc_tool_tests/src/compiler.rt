@@ -34,7 +34,7 @@ const NO_COMMANDS: [&str; 8] = [
 ];
 
 /// Sources, and the line that tells why each is refused.
-const REFUSED: [(&[u8], &str); 39] = [
+const REFUSED: [(&[u8], &str); 28] = [
     (b"int main(void){$}", "bad byte at offset 15"),
     (b"int main(void){print(08);}", "bad literal at line 1"),
     (b"int main(void){}\n\n/* x", "open comment at line 3"),
@@ -73,61 +73,21 @@ const REFUSED: [(&[u8], &str); 39] = [
     (b"int main(void){\nelse;}", "syntax at line 2"),
     (b"int main(void){\nreturn\n0}", "syntax at line 3"),
     (b"int main(void){\nint x=1,;}", "syntax at line 2"),
-    // Functions and calls. What a function must not do is told before what names and limits forbid.
-    (
-        b"int f(int x){int y=f(x);return y;}int main(void){}",
-        "no such function at line 1",
-    ),
-    (
-        b"int f(void){break;}int main(void){while(1){f();}}",
-        "jump outside a loop at line 1",
-    ),
-    (
-        b"int f(void){return y;}\nint main(void){int y;y=f();}",
-        "undeclared at line 1",
-    ),
-    (
-        b"int f(void){}\nint f(int x){}\nint main(void){}",
-        "function twice at line 2",
-    ),
-    (
-        b"int f(int x){\nreturn 1;\nreturn 2;}int main(void){int y;y=z;}",
-        "early return at line 2",
-    ),
-    (
-        b"int f(void){\nint a[2];}int main(void){}",
-        "array in function at line 2",
-    ),
-    (
-        b"int f(int x){}int main(void){\nf();}",
-        "wrong number of arguments at line 2",
-    ),
-    (
-        b"int f(int x,int x){}\nint main(void){f(1,2);}",
-        "declared twice at line 1",
-    ),
-    (
-        b"int f(int x){}int main(void){\nf(1)+1;}",
-        "syntax at line 2",
-    ),
-    (
-        b"int f(int x){}int main(void){int a[1];\na[0]=f(1);}",
-        "syntax at line 2",
-    ),
-    (
-        b"int f(int x){}int main(void){\nprint(f(1));}",
-        "syntax at line 2",
-    ),
 ];
 
 /// Whether the compiler, called on a text, leaves what it is to.
-fn compiles(alloc: Global, line: &str, text: &[u8], wanted: Wanted) -> Result<bool, Fail> {
+pub(crate) fn compiles(
+    alloc: Global,
+    line: &str,
+    text: &[u8],
+    wanted: Wanted,
+) -> Result<bool, Fail> {
     let mut shelf = shelf_with(alloc, "a.c", text, 0)?;
     answers(alloc, Who::Pcc, line, &mut shelf, b"", NONE_FAILS, wanted)
 }
 
 /// Whether a text is refused with this line.
-fn refuses(alloc: Global, text: &[u8], told: &str) -> Result<bool, Fail> {
+pub(crate) fn refuses(alloc: Global, text: &[u8], told: &str) -> Result<bool, Fail> {
     let line = format!(in alloc; "pcc: source: {told}\n")?;
     let wanted = Wanted {
         code: 4,

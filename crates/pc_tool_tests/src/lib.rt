@@ -9,6 +9,8 @@ mod compiler;
 #[cfg(test)]
 mod failures;
 #[cfg(test)]
+mod functions;
+#[cfg(test)]
 mod passes;
 #[cfg(test)]
 mod programs;
