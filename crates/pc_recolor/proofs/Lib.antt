@@ -1,9 +1,3 @@
-pub mod Alike
-pub mod Standing
-pub mod Steps
-pub mod Form
-pub mod Checked
-pub mod Tables
 pub mod Texts
 pub mod Named
 pub mod Recolored

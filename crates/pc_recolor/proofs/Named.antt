@@ -12,7 +12,7 @@ use Rattle.pc_machine.specs.MachineCode.{CodeRow, row_of}
 use Rattle.pc_machine.specs.Reachable.{HasLeafTo, IsReachable, Entry, Behind}
 use Rattle.pc_tighten.specs.Tightened.{EachIsReachable}
 use Rattle.pc_recolor.specs.models.Recoloring.{Names, AreNamed}
-use Rattle.pc_recolor.proofs.Checked.{slice_get_below}
+use Rattle.pc_renaming.proofs.Checked.{slice_get_below}
 
 le_or_lt : (m n : ℕ) → (m ≤ n) ⊎ (n < m)
 le_or_lt zero n = inl (omega arith)

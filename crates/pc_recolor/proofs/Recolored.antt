@@ -7,13 +7,13 @@ use Rattle.pc_machine.specs.MachineCode.{CodeRow, RowCode, rows_of}
 use Rattle.pc_machine.specs.WellFormed.{WellFormed}
 use Rattle.pc_object.specs.ObjectText.{row_text}
 use Rattle.pc_tighten.specs.Tightened.{EachIsReachable, IsTightened}
-use Rattle.pc_recolor.specs.declared.witness.RowWitness.{RowWitness}
-use Rattle.pc_recolor.specs.Witness.{renaming_of}
-use Rattle.pc_recolor.specs.IsRenamed.{AreRenamed, IsRenamed}
+use Rattle.pc_renaming.specs.declared.witness.RowWitness.{RowWitness}
+use Rattle.pc_renaming.specs.Witness.{renaming_of}
+use Rattle.pc_renaming.specs.IsRenamed.{AreRenamed, IsRenamed}
 use Rattle.pc_recolor.specs.Recolored.{IsRecolored, IsRecoloredAndTightened}
 use Rattle.pc_recolor.specs.models.Recoloring.{AreAnew, with_rows}
-use Rattle.pc_recolor.proofs.Steps.{renaming_keeps_the_run}
-use Rattle.pc_recolor.proofs.Form.{renaming_keeps_form}
+use Rattle.pc_renaming.proofs.Steps.{renaming_keeps_the_run}
+use Rattle.pc_renaming.proofs.Form.{renaming_keeps_form}
 
 -- rows that were made, and of which this is found; `after` are read of what was made
 pub rows_are_anew : (registers most : ℕ) (told : List RowWitness) (before after made : List (RowTree Leaf)) → after ≡ made

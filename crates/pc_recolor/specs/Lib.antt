@@ -1,8 +1,2 @@
-pub mod Renaming
-pub mod Witness
-pub mod ItemRenames
-pub mod RowRenames
-pub mod IsRenamed
 pub mod Recolored
-pub mod Laws
 pub mod models

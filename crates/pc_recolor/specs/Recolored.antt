@@ -6,8 +6,8 @@ use Rattle.pc_machine.specs.MachineRun.{machine_run}
 use Rattle.pc_machine.specs.WellFormed.{WellFormed}
 use Rattle.pc_object.specs.ObjectText.{row_text}
 use Rattle.pc_tighten.specs.Tightened.{EachIsReachable, IsTightened}
-use Rattle.pc_recolor.specs.Renaming.{Renaming}
-use Rattle.pc_recolor.specs.IsRenamed.{IsRenamed}
+use Rattle.pc_renaming.specs.Renaming.{Renaming}
+use Rattle.pc_renaming.specs.IsRenamed.{IsRenamed}
 
 -- the code after its registers were chosen anew, where its rows may be written in so many bytes
 pub record IsRecolored (most : ℕ) (before after : RowCode) : Type 0 where

@@ -1,7 +1,7 @@
 //! Which registers each row needs.
-use crate::checking::only_gives;
 use crate::register_set::RegisterSet;
 use pc_machine::{Leaf, Tree};
+use pc_renaming::only_gives;
 use pc_word::RowTree;
 use std::alloc::{AllocError, Global};
 

@@ -1,11 +1,12 @@
 //! The innermost loops of rows.
-use crate::knots::{Knots, link_target};
+use crate::branches::{Branches, forwarding_target};
 use pc_machine::Tree;
 use pc_word::RowTree;
 use std::alloc::{AllocError, Global};
 
-/// The innermost loops of rows. Where a walk comes back to a knot from one behind it, that is a head; its loop are the
-/// knots behind it that lead back to it, and the links between them, if no other head is among them (Havlak 1997).
+/// The innermost loops of rows. A branch row to which an edge leads from a descendant of it in the walk is a head; its
+/// loop are the descendants from which it is reachable, and the forwarding rows between them, if no other head is among
+/// them (Havlak 1997).
 #[derive(Drop)]
 pub(crate) struct Loops {
     /// The row at the head of each loop.
@@ -17,41 +18,41 @@ pub(crate) struct Loops {
 /// The search for loops.
 #[derive(Drop)]
 struct Search {
-    /// The knots that lead to each one.
-    before: Vec<Vec<u32>>,
-    /// Which knots are heads.
+    /// The predecessors of each branch row.
+    predecessors: Vec<Vec<u32>>,
+    /// Which branch rows are heads.
     is_head: Vec<bool>,
-    /// The head for which each knot was found last.
+    /// The head for which each branch row was found last.
     found_for: Vec<Option<u32>>,
 }
 
 impl Search {
     /// What is to be known before it begins.
-    fn new(alloc: Global, knots: &Knots) -> Result<Search, AllocError> {
+    fn new(alloc: Global, branches: &Branches) -> Result<Search, AllocError> {
         let mut search = Search {
-            before: Vec::new(alloc),
+            predecessors: Vec::new(alloc),
             is_head: Vec::new(alloc),
             found_for: Vec::new(alloc),
         };
-        for _knot in 0..knots.count() {
-            search.before.push(Vec::new(alloc))?;
+        for _branch in 0..branches.count() {
+            search.predecessors.push(Vec::new(alloc))?;
             search.is_head.push(false)?;
             search.found_for.push(None)?;
         }
-        for knot in 0..knots.count() {
-            for edge in knots.edges(knot) {
-                if let Some(end) = knots.end(*edge) {
-                    search.note(knot, end, knots.is_behind(knot, end))?;
+        for branch in 0..branches.count() {
+            for edge in branches.edges(branch) {
+                if let Some(end) = branches.end(*edge) {
+                    search.note(branch, end, branches.is_descendant(branch, end))?;
                 }
             }
         }
         Ok(search)
     }
 
-    /// Notes that one knot leads to another, which is a head if that leads back to it.
+    /// Notes an edge from one branch row to another, which is a head if the edge goes back.
     fn note(&mut self, from: u32, to: u32, back: bool) -> Result<(), AllocError> {
-        if let Some(before) = self.before.get_mut(to as usize) {
-            before.push(from)?;
+        if let Some(predecessors) = self.predecessors.get_mut(to as usize) {
+            predecessors.push(from)?;
         }
         if back {
             if let Some(entry) = self.is_head.get_mut(to as usize) {
@@ -61,9 +62,9 @@ impl Search {
         Ok(())
     }
 
-    /// Finds a knot for a head; whether it was not found before.
-    fn finds(&mut self, knot: u32, head: u32) -> bool {
-        match self.found_for.get_mut(knot as usize) {
+    /// Finds a branch row for a head; whether it was not found before.
+    fn finds(&mut self, branch: u32, head: u32) -> bool {
+        match self.found_for.get_mut(branch as usize) {
             Some(entry) => {
                 let fresh = *entry != Some(head);
                 *entry = Some(head);
@@ -73,22 +74,22 @@ impl Search {
         }
     }
 
-    /// Finds what leads to a knot and is behind a head; whether another head is among it.
+    /// Finds the predecessors of a branch row that are descendants of a head; whether another head is among them.
     fn step(
         &mut self,
-        knots: &Knots,
+        branches: &Branches,
         head: u32,
-        knot: u32,
+        branch: u32,
         found: &mut Vec<u32>,
     ) -> Result<bool, AllocError> {
         for at in 0..usize::MAX {
-            let Some(before) = self.before.get(knot as usize) else {
+            let Some(predecessors) = self.predecessors.get(branch as usize) else {
                 return Ok(false);
             };
-            let Some(from) = before.get(at).copied() else {
+            let Some(from) = predecessors.get(at).copied() else {
                 return Ok(false);
             };
-            if knots.is_behind(from, head) && self.finds(from, head) {
+            if branches.is_descendant(from, head) && self.finds(from, head) {
                 if self.is_head.get(from as usize).copied().unwrap_or(false) {
                     return Ok(true);
                 }
@@ -98,21 +99,21 @@ impl Search {
         Ok(false)
     }
 
-    /// The knots of the loop of a head; `None` where another head is among them.
+    /// The branch rows of the loop of a head; `None` where another head is among them.
     fn body(
         &mut self,
         alloc: Global,
-        knots: &Knots,
+        branches: &Branches,
         head: u32,
     ) -> Result<Option<Vec<u32>>, AllocError> {
         let mut found = Vec::new(alloc);
         found.push(head)?;
         self.finds(head, head);
         for at in 0..usize::MAX {
-            let Some(knot) = found.get(at).copied() else {
+            let Some(branch) = found.get(at).copied() else {
                 return Ok(Some(found));
             };
-            if self.step(knots, head, knot, &mut found)? {
+            if self.step(branches, head, branch, &mut found)? {
                 return Ok(None);
             }
         }
@@ -122,8 +123,12 @@ impl Search {
 
 impl Loops {
     /// The innermost loops of rows.
-    pub(crate) fn of(alloc: Global, rows: &[Tree], knots: &Knots) -> Result<Loops, AllocError> {
-        let mut search = Search::new(alloc, knots)?;
+    pub(crate) fn of(
+        alloc: Global,
+        rows: &[Tree],
+        branches: &Branches,
+    ) -> Result<Loops, AllocError> {
+        let mut search = Search::new(alloc, branches)?;
         let mut loops = Loops {
             heads: Vec::new(alloc),
             of_row: Vec::new(alloc),
@@ -131,10 +136,10 @@ impl Loops {
         for _row in rows {
             loops.of_row.push(None)?;
         }
-        for head in 0..knots.count() {
+        for head in 0..branches.count() {
             if search.is_head.get(head as usize).copied().unwrap_or(false) {
-                if let Some(body) = search.body(alloc, knots, head)? {
-                    loops.add(rows, knots, knots.row(head), &body)?;
+                if let Some(body) = search.body(alloc, branches, head)? {
+                    loops.add(rows, branches, branches.row(head), &body)?;
                 }
             }
         }
@@ -156,22 +161,22 @@ impl Loops {
         self.heads.get(number as usize).copied() == Some(row)
     }
 
-    /// One more loop, with these knots.
+    /// One more loop, with these branch rows.
     fn add(
         &mut self,
         rows: &[Tree],
-        knots: &Knots,
+        branches: &Branches,
         head: u32,
         body: &[u32],
     ) -> Result<(), AllocError> {
-        let number = crate::knots::number_of(self.heads.len());
+        let number = crate::branches::number_of(self.heads.len());
         self.heads.push(head)?;
-        for knot in body {
-            self.mark(knots.row(*knot), number);
+        for branch in body {
+            self.mark(branches.row(*branch), number);
         }
-        for knot in body {
-            if let Some(tree) = rows.get(knots.row(*knot) as usize) {
-                self.mark_links(rows, tree, number);
+        for branch in body {
+            if let Some(tree) = rows.get(branches.row(*branch) as usize) {
+                self.mark_forwarding(rows, tree, number);
             }
         }
         Ok(())
@@ -184,13 +189,13 @@ impl Loops {
         }
     }
 
-    /// The same of the links through which leaves of a tree lead to knots of the loop.
-    fn mark_links(&mut self, rows: &[Tree], tree: &Tree, number: u32) {
+    /// The same of the forwarding rows on the edges from the leaves of a tree to branch rows of the loop.
+    fn mark_forwarding(&mut self, rows: &[Tree], tree: &Tree, number: u32) {
         match tree {
-            RowTree::Step { next, .. } => self.mark_links(rows, next, number),
+            RowTree::Step { next, .. } => self.mark_forwarding(rows, next, number),
             RowTree::Test { yes, no, .. } => {
-                self.mark_links(rows, yes, number);
-                self.mark_links(rows, no, number);
+                self.mark_forwarding(rows, yes, number);
+                self.mark_forwarding(rows, no, number);
             }
             RowTree::Leaf { leaf } => {
                 if let Some(row) = leaf.target() {
@@ -200,30 +205,30 @@ impl Loops {
         }
     }
 
-    /// The same of the links from a row on, if they lead to a knot of the loop.
+    /// The same of the forwarding rows from a row on, if the branch row after them is in the loop.
     fn mark_way(&mut self, rows: &[Tree], row: u32, number: u32) {
-        let end = knot_behind(rows, row);
+        let end = branch_after(rows, row);
         if self.of_row(end) != Some(number) {
             return;
         }
         let mut at = row;
-        for _link in 0..rows.len() {
+        for _row in 0..rows.len() {
             if at == end {
                 return;
             }
             self.mark(at, number);
-            if let Some(next) = link_target(rows, at) {
+            if let Some(next) = forwarding_target(rows, at) {
                 at = next;
             }
         }
     }
 }
 
-/// The row of the knot to which a row leads through links, or which it is.
-fn knot_behind(rows: &[Tree], row: u32) -> u32 {
+/// The branch row after a forwarding row; a branch row itself.
+fn branch_after(rows: &[Tree], row: u32) -> u32 {
     let mut end = row;
-    for _link in 0..rows.len() {
-        match link_target(rows, end) {
+    for _row in 0..rows.len() {
+        match forwarding_target(rows, end) {
             Some(next) => end = next,
             None => return end,
         }

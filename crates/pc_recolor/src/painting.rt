@@ -1,12 +1,11 @@
 //! Rows with the registers that their webs have.
-use crate::checking::only_gives;
 use crate::liveness::{Liveness, liveness_of};
 use crate::nodes::{NodeSets, node_below, node_sets};
 use crate::phases::Phased;
 use crate::register_set::RegisterSet;
 use crate::webs::{Webs, count_leaves, set_at};
-use crate::witness::{Holding, RowWitness};
 use pc_machine::{Tree, TreeList};
+use pc_renaming::{Holding, RowWitness, only_gives};
 use pc_word::{Item, Operand, OutOfMemory, RowTree, Seq};
 use std::alloc::{AllocError, Global};
 

@@ -1,9 +1,9 @@
 //! Rows in several phases, as in modulo variable expansion (Lam 1988): a loop's rows stand there several times, so that
 //! what one turn leaves need not be where the turn before left it.
-use crate::knots::{is_row_of_copies, number_of};
+use crate::branches::{is_row_of_copies, number_of};
+use crate::exits::Exits;
 use crate::loops::Loops;
 use crate::painting::{step, test};
-use crate::tails::Tails;
 use pc_machine::{Leaf, Tree};
 use pc_word::RowTree;
 use std::alloc::{AllocError, Global};
@@ -36,7 +36,7 @@ pub(crate) struct Phased {
 struct Phasing<'a> {
     rows: &'a [Tree],
     loops: &'a Loops,
-    tails: &'a Tails,
+    exits: &'a Exits,
     /// How many phases each loop has.
     phases: &'a [u8],
     /// The number that each row has in each phase.
@@ -77,18 +77,18 @@ impl Phasing<'_> {
                 if self.loops.of_row(to) == within {
                     self.phase_in_loop(from, to, number)
                 } else {
-                    self.phase_in_tail(from, to)
+                    self.phase_after_loop(from, to)
                 }
             }
-            None => self.phase_in_tail(from, to),
+            None => self.phase_after_loop(from, to),
         };
         Place { row: to, phase }
     }
 
     /// The phase of a row outside of loops.
-    fn phase_in_tail(&self, from: Place, to: u32) -> u8 {
+    fn phase_after_loop(&self, from: Place, to: u32) -> u8 {
         let passed = is_row_of_copies(self.rows, from.row) && !is_row_of_copies(self.rows, to);
-        if self.tails.has(to) && !passed {
+        if self.exits.has(to) && !passed {
             from.phase
         } else {
             0
@@ -172,7 +172,7 @@ pub(crate) fn in_phases(
     alloc: Global,
     rows: &[Tree],
     loops: &Loops,
-    tails: &Tails,
+    exits: &Exits,
     phases: &[u8],
 ) -> Result<Phased, AllocError> {
     let mut numbers = Vec::new(alloc);
@@ -183,7 +183,7 @@ pub(crate) fn in_phases(
     Phasing {
         rows,
         loops,
-        tails,
+        exits,
         phases,
         numbers,
         places,

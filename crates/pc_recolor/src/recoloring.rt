@@ -5,18 +5,18 @@ ghost use Rattle.pc_machine.specs.WellFormed.{WellFormed};
 ghost use Rattle.pc_recolor.specs.Recolored.{IsRecolored, IsRecoloredAndTightened};
 ghost use Rattle.pc_recolor.specs.models.Recoloring.{AreAnew, with_rows};
 
+use crate::branches::Branches;
 use crate::chains::phases_called_for;
-use crate::checking::is_renaming;
 use crate::choice::{Choice, most_phases, one_phase};
-use crate::knots::Knots;
+use crate::exits::Exits;
 use crate::loops::Loops;
 use crate::naming::are_named_in_order;
-use crate::pace::{Cover, Paces};
+use crate::pace::{Paces, PhasedBranches};
 use crate::painting::{Made, Merged, merged_webs, painted_rows};
 use crate::phases::{MOST_PHASES, Phased, in_phases};
 use crate::size::fit;
-use crate::tails::Tails;
 use pc_machine::{Code, Tree, TreeList};
+use pc_renaming::is_renaming;
 use pc_tighten::tighten;
 use pc_word::{DataList, LengthList, OutOfMemory, WordList};
 use std::alloc::{AllocError, Global};
@@ -130,20 +130,20 @@ fn most_phases_of(rows: usize) -> u8 {
 /// What the rows of a code lead to, and the loops among them.
 #[derive(Drop)]
 struct Shape {
-    knots: Knots,
+    branches: Branches,
     loops: Loops,
-    tails: Tails,
+    exits: Exits,
 }
 
 /// The shape of rows.
 fn shape_of(alloc: Global, rows: &[Tree]) -> Result<Shape, AllocError> {
-    let knots = Knots::of(alloc, rows)?;
-    let loops = Loops::of(alloc, rows, &knots)?;
-    let tails = Tails::of(alloc, rows, &loops)?;
+    let branches = Branches::of(alloc, rows)?;
+    let loops = Loops::of(alloc, rows, &branches)?;
+    let exits = Exits::of(alloc, rows, &loops)?;
     Ok(Shape {
-        knots,
+        branches,
         loops,
-        tails,
+        exits,
     })
 }
 
@@ -151,8 +151,8 @@ fn shape_of(alloc: Global, rows: &[Tree]) -> Result<Shape, AllocError> {
 #[derive(Drop)]
 struct Tried {
     code: Code,
-    cover: Cover,
-    knots: Knots,
+    phased: PhasedBranches,
+    branches: Branches,
     /// How many rows of copies each loop keeps.
     kept: Vec<u32>,
     /// How many phases each loop calls for.
@@ -175,21 +175,21 @@ fn attempt(
         alloc,
         code.rows.as_slice(),
         &shape.loops,
-        &shape.tails,
+        &shape.exits,
         phases,
     )?;
     let merged = merged_webs(alloc, &phased)?;
     let called_for = phases_called_for(alloc, shape.loops.count(), &phased, &merged)?;
     match recolored(alloc, code, most, &phased, merged)? {
         Some(between) => {
-            let cover = Cover::of(alloc, &phased)?;
+            let phased = PhasedBranches::of(alloc, &phased)?;
             let code = tighten(alloc, between)?;
-            let knots = Knots::of(alloc, code.rows.as_slice())?;
-            let kept = cover.copies_kept(alloc, shape.loops.count(), &knots)?;
+            let branches = Branches::of(alloc, code.rows.as_slice())?;
+            let kept = phased.copies_kept(alloc, shape.loops.count(), &branches)?;
             Ok(Some(Tried {
                 code,
-                cover,
-                knots,
+                phased,
+                branches,
                 kept,
                 called_for,
             }))
@@ -256,12 +256,12 @@ fn is_no_slower(
     tried: &Tried,
     other: &Code,
 ) -> Result<bool, AllocError> {
-    let knots = Knots::of(alloc, other.rows.as_slice())?;
+    let branches = Branches::of(alloc, other.rows.as_slice())?;
     let paces = Paces {
-        cover: &tried.cover,
-        after: &tried.knots,
-        before: &shape.knots,
-        other: &knots,
+        phased: &tried.phased,
+        after: &tried.branches,
+        before: &shape.branches,
+        other: &branches,
     };
     paces.are_no_slower(alloc)
 }
@@ -305,7 +305,7 @@ pub fn is_refused(alloc: Global, code: &Code, phases: u8) -> Result<bool, OutOfM
     for _number in 0..shape.loops.count() {
         trial.push(phases.min(MOST_PHASES))?;
     }
-    let phased = in_phases(alloc, rows, &shape.loops, &shape.tails, &trial)?;
+    let phased = in_phases(alloc, rows, &shape.loops, &shape.exits, &trial)?;
     let merged = merged_webs(alloc, &phased)?;
     match painted_rows(alloc, code.registers, &phased, merged)? {
         Some(made) => {

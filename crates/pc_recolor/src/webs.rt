@@ -1,10 +1,10 @@
 //! Where each set of nodes has its register: at the points at which registers must be apart.
-use crate::checking::only_gives;
 use crate::liveness::Liveness;
 use crate::nodes::{NodeSets, node_below};
 use crate::register_set::RegisterSet;
 use pc_arena::{Arena, NodeId};
 use pc_machine::{Leaf, Tree};
+use pc_renaming::only_gives;
 use pc_word::{Item, Operand, OutOfMemory, RowTree};
 use std::alloc::{AllocError, Global};
 

@@ -5,8 +5,8 @@ use Rattle.pc_machine.specs.MachineCode.{CodeRow, RowCode}
 use Rattle.pc_machine.specs.Reachable.{HasLeafTo, IsReachable}
 use Rattle.pc_object.specs.ObjectText.{row_text}
 use Rattle.pc_tighten.specs.Tightened.{EachIsReachable}
-use Rattle.pc_recolor.specs.Renaming.{Renaming}
-use Rattle.pc_recolor.specs.IsRenamed.{AreRenamed}
+use Rattle.pc_renaming.specs.Renaming.{Renaming}
+use Rattle.pc_renaming.specs.IsRenamed.{AreRenamed}
 
 -- where the rows up to a number were named already, those up to another are named once this row is seen, which leads to them
 pub record Names (row : CodeRow) (known after : ℕ) : Type 0 where

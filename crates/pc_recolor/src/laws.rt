@@ -1,9 +1,0 @@
-//! Laws of renamed codes. The function here does nothing: its contract is the laws, and that it is
-//! proved is all that it is for.
-ghost use Rattle.pc_recolor.specs.Laws.{RenamingKeepsTheRun, RenamingKeepsForm};
-
-/// A renamed code runs as the code before, and is well formed where that was.
-pub fn laws_of_renaming()
-    ensures runs { RenamingKeepsTheRun }
-    ensures form { RenamingKeepsForm }
-{}

@@ -1,0 +1,7 @@
+pub mod Renaming
+pub mod Witness
+pub mod ItemRenames
+pub mod RowRenames
+pub mod IsRenamed
+pub mod Laws
+pub mod models
