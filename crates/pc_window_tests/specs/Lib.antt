@@ -3,3 +3,4 @@ pub mod TwoVariables
 pub mod Looping
 pub mod Echoing
 pub mod Exchanging
+pub mod Twins

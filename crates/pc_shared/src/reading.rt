@@ -1,0 +1,119 @@
+//! Walks of what a number unfolds to, place by place.
+ghost use Rattle.std.specs.Prelude.{◌≡◌, ◌<◌, ◌^◌, IfOk};
+ghost use Rattle.pc_window.specs.Tree.{tree_size};
+ghost use Rattle.pc_shared.specs.NodeTree.{nodes_in, plain_tree, count_places};
+ghost use Rattle.pc_shared.specs.Unfolding.{tree_at, Stands};
+
+use crate::node::SharedNode;
+use crate::store::Store;
+use pc_arena::NodeId;
+use pc_window::{HomeList, WindowTree};
+use pc_word::OutOfMemory;
+use std::alloc::Global;
+
+/// The number of items and tests of the tree of a number, no deeper than so many nodes.
+#[tactic(auto, using(crate::proofs::Standing::standing))]
+pub(crate) fn size_at(store: &Store, id: NodeId, most: u32) -> u32
+    requires stands { Stands most store.now id }
+    requires few { tree_size (plain_tree (tree_at most store.now id)) < 2 ^ 31 }
+    ensures { result ≡ tree_size (plain_tree (tree_at most store.now id)) }
+{
+    match *store.nodes.get(id) {
+        SharedNode::Step { rest, .. } => 1 + size_at(store, rest, most - 1),
+        SharedNode::Test { yes, no, .. } => 1
+            + size_at(store, yes, most - 1)
+            + size_at(store, no, most - 1),
+        SharedNode::Node { below } => size_at(store, below, most - 1),
+        SharedNode::Exit { .. } | SharedNode::Stop | SharedNode::Trap { .. } => 0,
+    }
+}
+
+/// At how many places nodes are seen in the tree of a number, no deeper than so many nodes.
+#[tactic(auto, using(crate::proofs::Standing::standing))]
+pub(crate) fn places_at(store: &Store, id: NodeId, most: u32) -> u32
+    requires stands { Stands most store.now id }
+    requires few { count_places (tree_at most store.now id) < 2 ^ 31 }
+    ensures { result ≡ count_places (tree_at most store.now id) }
+{
+    match *store.nodes.get(id) {
+        SharedNode::Step { rest, .. } => 1 + places_at(store, rest, most - 1),
+        SharedNode::Test { yes, no, .. } => 1
+            + places_at(store, yes, most - 1)
+            + places_at(store, no, most - 1),
+        SharedNode::Node { below } => 1 + places_at(store, below, most - 1),
+        SharedNode::Exit { .. } | SharedNode::Stop | SharedNode::Trap { .. } => 1,
+    }
+}
+
+/// The tree of a number, no deeper than so many nodes, with nodes of its own.
+#[tactic(auto, using(crate::proofs::Standing::standing))]
+pub(crate) fn owned_tree(
+    alloc: Global,
+    store: &Store,
+    id: NodeId,
+    most: u32,
+) -> Result<WindowTree, OutOfMemory>
+    requires { Stands most store.now id }
+    ensures { IfOk result (λ tree. nodes_in tree ≡ tree_at most store.now id) }
+{
+    match *store.nodes.get(id) {
+        SharedNode::Step {
+            tag,
+            origin,
+            item,
+            rest,
+        } => {
+            let rest = owned_tree(alloc, store, rest, most - 1)?;
+            let rest = Box::new(alloc, rest)?;
+            Ok(WindowTree::Step {
+                tag,
+                origin,
+                item,
+                rest,
+            })
+        }
+        SharedNode::Test {
+            tag,
+            origin,
+            on,
+            yes,
+            no,
+        } => {
+            let yes = owned_tree(alloc, store, yes, most - 1)?;
+            let no = owned_tree(alloc, store, no, most - 1)?;
+            let yes = Box::new(alloc, yes)?;
+            let no = Box::new(alloc, no)?;
+            Ok(WindowTree::Test {
+                tag,
+                origin,
+                on,
+                yes,
+                no,
+            })
+        }
+        SharedNode::Node { below } => {
+            let below = owned_tree(alloc, store, below, most - 1)?;
+            let below = Box::new(alloc, below)?;
+            Ok(WindowTree::Node { below })
+        }
+        SharedNode::Exit { region, tag, homes } => {
+            let homes = HomeList::from_slice(alloc, store.homes.get(homes).as_slice())?;
+            Ok(WindowTree::Exit { region, tag, homes })
+        }
+        SharedNode::Stop => Ok(WindowTree::Stop),
+        SharedNode::Trap { kind, line } => Ok(WindowTree::Trap { kind, line }),
+    }
+}
+
+/// The number of places of a tree that owns its nodes.
+pub(crate) fn count_owned(tree: &WindowTree) -> u32
+    requires { count_places (nodes_in tree.now) < 2 ^ 31 }
+    ensures { result ≡ count_places (nodes_in tree.now) }
+{
+    match tree {
+        WindowTree::Step { rest, .. } => 1 + count_owned(rest),
+        WindowTree::Test { yes, no, .. } => 1 + count_owned(yes) + count_owned(no),
+        WindowTree::Node { below } => 1 + count_owned(below),
+        WindowTree::Exit { .. } | WindowTree::Stop | WindowTree::Trap { .. } => 1,
+    }
+}
