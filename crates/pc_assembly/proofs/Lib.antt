@@ -1,0 +1,14 @@
+mod CutLines
+mod Initial
+mod ReadNumbers
+mod ReadParts
+mod ReadRows
+mod ReadHeadings
+mod ReadData
+mod ReadNotes
+mod ReadLimits
+mod ReadListing
+mod ReadText
+mod ReadBytes
+mod ReadBack
+pub mod Examples

@@ -1,0 +1,14 @@
+-- The laws are lemmas.
+use Rattle.pc_assembly.proofs.ReadParts.{part_read}
+use Rattle.pc_assembly.proofs.ReadRows.{row_read}
+use Rattle.pc_assembly.proofs.ReadBack.{listing_read}
+use Rattle.pc_assembly.proofs.laws.laws_of_reading.Goals as goal
+
+pub returns-clause-parts : goal.returns-clause-parts
+returns-clause-parts c = part_read
+
+pub returns-clause-rows : goal.returns-clause-rows
+returns-clause-rows c = row_read
+
+pub returns-clause-listings : goal.returns-clause-listings
+returns-clause-listings c = listing_read

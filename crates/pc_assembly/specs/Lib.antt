@@ -1,0 +1,15 @@
+pub mod models
+pub mod Bytes
+pub mod Spelling
+pub mod Words
+pub mod Operands
+pub mod Items
+pub mod Parts
+pub mod Limits
+pub mod Notes
+pub mod Lines
+pub mod Text
+pub mod Listing
+pub mod Assembled
+pub mod Object
+pub mod Laws

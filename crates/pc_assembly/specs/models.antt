@@ -1,0 +1,4 @@
+pub mod Causes
+pub mod Drafts
+pub mod Headers
+pub mod Ranges

@@ -1,0 +1,10 @@
+//! Laws of the reading. No function here does anything: each one's contract is a law.
+ghost use Rattle.pc_assembly.specs.Laws.{PartsReadBack, RowsReadBack, ListingsReadBack};
+
+/// What is printed of an object is read back: each item, test and leaf; the lines of each row's tree, as the
+/// parts of the row; and the whole listing, as the object that was listed.
+pub fn laws_of_reading()
+    ensures parts { PartsReadBack }
+    ensures rows { RowsReadBack }
+    ensures listings { ListingsReadBack }
+{}
