@@ -1,5 +1,5 @@
 # make              proves and builds the programs into build/
-# make demo         compiles the examples with them, runs their objects, compares bytes and output, and shows the rows of two
+# make demo         compiles and assembles the examples with them, runs their objects, compares bytes and output, and shows the rows of two
 # make test         runs the gate
 # make install      installs what `make` built, and its manual pages, below PREFIX (below DESTDIR, if it is given)
 # make clean        removes build/; what proofs and tests have kept stands in crates/*/out and stays
@@ -9,7 +9,7 @@
 # make try SRC=my.c IN=numbers      compiles a program of your own, and runs it on the numbers of a file
 # make unproved     makes the programs in build/unproved/, in some minutes
 
-PROGRAMS = pcc pvm pview pstat
+PROGRAMS = pcc pvm pview pstat pasm
 PREFIX = /usr/local
 INSTALL = install
 
@@ -18,6 +18,7 @@ pcc_words = data/seven.c -o /dev/null
 pvm_words = data/seven.tv
 pview_words = data/seven.tv
 pstat_words = data/sum.tv
+pasm_words = data/seven.rows -o /dev/null
 
 all: $(PROGRAMS:%=build/%)
 

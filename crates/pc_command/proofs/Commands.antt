@@ -4,8 +4,8 @@ use Rattle.std.specs.Prelude.{Option, Some, None, Ok, ok_or, option_and_then, op
 use Rattle.clap.specs.Walk.{Text}
 use Rattle.pc_word.specs.Exact.{IsExact, IsRefusal}
 use Rattle.pc_command.specs.Matching.{Matches}
-use Rattle.pc_command.specs.Arguments.{compile_app, matches_taken, simulate_app, stat_app, view_app}
-use Rattle.pc_command.specs.Requests.{command_cause, compile_command_of, compile_request_in}
+use Rattle.pc_command.specs.Arguments.{assemble_app, compile_app, matches_taken, simulate_app, stat_app, view_app}
+use Rattle.pc_command.specs.Requests.{assemble_command_of, assemble_request_in, command_cause, compile_command_of, compile_request_in}
 use Rattle.pc_command.specs.Requests.{simulate_command_of, simulate_request_in, stat_command_of, stat_request_in, view_command_of, view_request_in}
 use Rattle.pc_command.specs.declared.error.CommandError.{CommandError}
 use Rattle.pc_command.specs.declared.error.CommandError.TheVariants.{NoCommand, Memory}
@@ -46,7 +46,18 @@ pub compile-taken : (words : List Text) (matches : Matches) → ok_or (matches_t
 unfolding compile_command_of
 compile-taken words matches taken = rw (there _ matches taken) refl
 
--- so of the simulator
+-- so of the assembler
+pub assemble-refused : (error : CommandError) (words : List Text) → IsRefusal (command_cause error) (ok_or (matches_taken assemble_app words) NoCommand)
+    → IsRefusal (command_cause error) (ok_or (assemble_command_of words) NoCommand)
+unfolding assemble_command_of
+assemble-refused error words h = refused_as error (matches_taken assemble_app words) assemble_request_in h
+
+pub assemble-taken : (words : List Text) (matches : Matches) → ok_or (matches_taken assemble_app words) NoCommand ≡ Ok matches
+    → assemble_command_of words ≡ Some (assemble_request_in matches)
+unfolding assemble_command_of
+assemble-taken words matches taken = rw (there _ matches taken) refl
+
+-- of the simulator
 pub simulate-refused : (error : CommandError) (words : List Text) → IsRefusal (command_cause error) (ok_or (matches_taken simulate_app words) NoCommand)
     → IsRefusal (command_cause error) (ok_or (simulate_command_of words) NoCommand)
 unfolding simulate_command_of

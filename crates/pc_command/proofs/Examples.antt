@@ -6,7 +6,7 @@ use Rattle.pc_command.specs.Arguments.{flag_in, matches_taken, word_in}
 use Rattle.pc_command.specs.Laws.{plain_request}
 use Rattle.pc_command.specs.Options.{number_in}
 use Rattle.pc_command.specs.Requests.{CompileRequest, OfFile, OfSample, SourcePlace, behind_at, compile_command_of, compile_request_in, source_place_of, simulate_command_of, simulate_request_in}
-use Rattle.pc_command.specs.Requests.{stat_command_of, stat_request_in, view_command_of, view_request_in}
+use Rattle.pc_command.specs.Requests.{assemble_command_of, assemble_request_in, stat_command_of, stat_request_in, view_command_of, view_request_in}
 use Rattle.pc_command.specs.declared.stat.StatMode.TheVariants as mode
 use Rattle.pc_command.proofs.Programs.{argument_tables}
 
@@ -20,7 +20,7 @@ unfolding compile_command_of compile_request_in simulate_command_of simulate_req
 requests = tt
 
 unfoldable commands : Unit {0}
-unfolding clap_on_literals argument_tables requests matches_taken flag_in word_in number_in
+unfolding clap_on_literals argument_tables requests assemble_command_of assemble_request_in matches_taken flag_in word_in number_in
 commands = tt
 
 -- words that the compiler is asked with
@@ -116,6 +116,15 @@ cycles-greatest = refl
 cycles-below : simulate_command_of (codes "y" ∷ (codes "--cycles" ∷ (codes "0" ∷ []))) ≡ None
 unfolding commands
 cycles-below = refl
+
+-- the assembler's
+object_first : assemble_command_of (codes "-o" ∷ (codes "y" ∷ (codes "x" ∷ []))) ≡ Some (record { text = codes "x"; object = codes "y" })
+unfolding commands
+object_first = refl
+
+no_object : assemble_command_of (codes "x" ∷ []) ≡ None
+unfolding commands
+no_object = refl
 
 -- the viewer's
 dot-given : view_command_of (codes "--dot" ∷ (codes "y" ∷ [])) ≡ Some (record { object = codes "y"; dot = true })

@@ -10,7 +10,7 @@ use Rattle.pc_command.specs.Laws.{CompileCommandsAreInRange, IsInRange, IsSource
 use Rattle.pc_word.specs.Ranges.{AreCycles}
 use Rattle.pc_command.specs.Requests.{CompileRequest, OfFile, OfSample, SourcePlace, SimulateRequest, compile_command_of, compile_request_in}
 use Rattle.pc_command.specs.Requests.{behind_at, extent_in, limits_in, source_place_behind, source_place_of, sample_number_of, simulate_command_of, simulate_request_in}
-use Rattle.pc_command.specs.Options.{cycles_option, number_found, number_in, trace_option}
+use Rattle.pc_command.specs.Options.{cycles_option, number_in}
 use Rattle.pc_command.specs.Requests.{StatRequest, mode_in, mode_of, stat_command_of, stat_request_in}
 use Rattle.pc_command.specs.declared.stat.StatMode.{StatMode}
 use Rattle.pc_command.specs.declared.stat.StatMode.TheVariants as mode

@@ -8,10 +8,11 @@ use Rattle.clap.specs.Walk.{Held, Rule, Text, Waiting, Walk, after_step, idle, n
 use Rattle.clap.specs.declared.builder.value_parser.Reading.TheVariants.{AsWritten}
 use Rattle.clap.specs.declared.parser.matches.ValueSource.TheVariants.{CommandLine}
 use Rattle.clap.proofs.OnLiterals.{clap_on_literals}
-use Rattle.pc_command.specs.Arguments.{compile_app, flag_in, matches_taken, simulate_app, stat_app, view_app, word_in}
-use Rattle.pc_command.specs.Laws.{IsPlainWord, NoWordsAreNoCommand, PlainWordProfiles, PlainWordSimulates, PlainWordViews, PlainWordsCompile}
+use Rattle.pc_command.specs.Arguments.{assemble_app, compile_app, flag_in, matches_taken, simulate_app, stat_app, view_app, word_in}
+use Rattle.pc_command.specs.Laws.{IsPlainWord, NoWordsAreNoCommand, PlainWordProfiles, PlainWordSimulates, PlainWordViews, PlainWordsAssemble, PlainWordsCompile}
 use Rattle.pc_command.specs.Options.{number_in}
-use Rattle.pc_command.specs.Requests.{compile_command_of, compile_request_in, simulate_command_of, simulate_request_in}
+use Rattle.pc_command.specs.Requests.{assemble_command_of, assemble_request_in, compile_command_of, compile_request_in}
+use Rattle.pc_command.specs.Requests.{simulate_command_of, simulate_request_in}
 use Rattle.pc_command.specs.Requests.{stat_command_of, stat_request_in, view_command_of, view_request_in}
 use Rattle.pc_command.proofs.Programs.{argument_tables}
 
@@ -145,15 +146,21 @@ plain_word-profiles object is = rw (stat-fault object is, stat-walked object is)
 -- ---- the compiler's words
 
 -- what is held after SRC, after `-o`, and after OBJ
-abbrev source_held : Text → Held
-source_held source = record { rows = []; pending = Some (codes "SRC", source ∷ []); skip = 0 }
+abbrev first_held : (name word : Text) → Held
+first_held name word = record { rows = []; pending = Some (name, word ∷ []); skip = 0 }
 
-abbrev taking_object : Text → List Text → Held
-taking_object source given = record {
-  rows = record { id = codes "SRC"; values = source ∷ []; count = None; source = Some CommandLine; reading = AsWritten } ∷ [];
+abbrev source_held : Text → Held
+source_held source = first_held (codes "SRC") source
+
+abbrev taking_after : (name word : Text) → List Text → Held
+taking_after name word given = record {
+  rows = record { id = name; values = word ∷ []; count = None; source = Some CommandLine; reading = AsWritten } ∷ [];
   pending = Some (codes "OBJ", given);
   skip = 0;
 }
+
+abbrev taking_object : Text → List Text → Held
+taking_object source given = taking_after (codes "SRC") source given
 
 -- the walk over SRC
 source-walked : (source : Text) → IsPlainWord source
@@ -203,9 +210,66 @@ unfolding compile_command_of compile_request_in matches_taken word_in flag_in nu
 plain_words-compile source object place is also named =
     rw (compile-fault source object is also, source-walked source is, letter-walked source, object-walked source object also, named) refl
 
+-- ---- the assembler's words
+
+-- what is held after TEXT, and after `-o`
+abbrev text_held : Text → Held
+text_held text = first_held (codes "TEXT") text
+
+abbrev taking_assembled : Text → List Text → Held
+taking_assembled text given = taking_after (codes "TEXT") text given
+
+-- the walk over TEXT
+text-walked : (text : Text) → IsPlainWord text → walked (built assemble_app).top.rules [] (walk_from nothing_held) text ≡ at_place (text_held text) idle 2
+unfolding argument_tables
+text-walked text is = plain_word-walked (built assemble_app).top.rules nothing_held idle 1 text is
+
+-- over `-o`
+assemble_letter-walked : (text : Text)
+    → walked (built assemble_app).top.rules [] (at_place (text_held text) idle 2) (codes "-o") ≡ at_place (taking_assembled text []) (option (codes "OBJ")) 2
+unfolding argument_tables clap_on_literals
+assemble_letter-walked text = refl
+
+-- and over OBJ
+assembled-walked : (text object : Text) → IsPlainWord object
+    → walked (built assemble_app).top.rules [] (at_place (taking_assembled text []) (option (codes "OBJ")) 2) object
+    ≡ at_place (taking_assembled text (object ∷ [])) idle 2
+unfolding argument_tables
+assembled-walked text object is = plain_word-walked (built assemble_app).top.rules (taking_assembled text []) (option (codes "OBJ")) 2 object is
+
+-- the letter is no fault
+assemble_letter-turn : (text : Text) → turn_fault (built assemble_app).top [] (at_place (text_held text) idle 2) (codes "-o") ≡ []
+unfolding argument_tables clap_on_literals
+assemble_letter-turn text = refl
+
+-- nor is any of the words
+assemble-walk_fault : (text object : Text) → IsPlainWord text → IsPlainWord object
+    → walk_fault (built assemble_app).top [] (walk_from nothing_held) (text ∷ (codes "-o" ∷ (object ∷ []))) ≡ []
+unfolding argument_tables walk_fault
+assemble-walk_fault text object is also =
+    rw (
+      plain_word-turn (built assemble_app).top nothing_held idle 1 text is,
+      text-walked text is,
+      assemble_letter-turn text,
+      assemble_letter-walked text,
+      plain_word-turn (built assemble_app).top (taking_assembled text []) (option (codes "OBJ")) 2 object also,
+    ) refl
+
+-- and there is none after them
+assemble-fault : (text object : Text) → IsPlainWord text → IsPlainWord object → fault_of assemble_app (text ∷ (codes "-o" ∷ (object ∷ []))) ≡ []
+unfolding argument_tables defaults_fault
+assemble-fault text object is also =
+    rw (assemble-walk_fault text object is also, text-walked text is, assemble_letter-walked text, assembled-walked text object also) refl
+
+-- plain words with `-o` between them are a command of the assembler
+pub plain_words-assemble : PlainWordsAssemble
+unfolding assemble_command_of assemble_request_in matches_taken word_in argument_tables
+plain_words-assemble text object is also =
+    rw (assemble-fault text object is also, text-walked text is, assemble_letter-walked text, assembled-walked text object also) refl
+
 -- ---- no words
 
 -- are no command
 pub no_words-command : NoWordsAreNoCommand
-unfolding compile_command_of simulate_command_of view_command_of stat_command_of matches_taken argument_tables clap_on_literals
-no_words-command = (refl, refl, refl, refl)
+unfolding compile_command_of assemble_command_of simulate_command_of view_command_of stat_command_of matches_taken argument_tables clap_on_literals
+no_words-command = (refl, refl, refl, refl, refl)

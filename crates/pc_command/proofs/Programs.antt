@@ -9,7 +9,7 @@ use Rattle.clap.specs.declared.builder.arg.Arg.{Arg}
 use Rattle.clap.specs.declared.builder.command.Command.{Command}
 use Rattle.clap.specs.declared.builder.command.Command.TheViews.{out-Command}
 use Rattle.clap.proofs.OnLiterals.{clap_on_literals}
-use Rattle.pc_command.specs.Arguments.{compile_app, app_with, simulate_app, stat_app, view_app}
+use Rattle.pc_command.specs.Arguments.{assemble_app, compile_app, app_with, simulate_app, stat_app, view_app}
 use Rattle.pc_command.specs.Options.{ops_option, tests_option, mem_option, window_option, rows_option, cycles_option, trace_option}
 
 -- a command whose words begin after the program's name
@@ -24,13 +24,17 @@ added old arg new app rule adds local is rule_is = adds.shape local ∙ ap₂ wi
 
 -- what is opened to compute the programs' arguments
 unfoldable pub argument_tables : Unit {0}
-unfolding compile_app simulate_app view_app stat_app ops_option tests_option mem_option window_option rows_option cycles_option trace_option digits
+unfolding compile_app assemble_app simulate_app view_app stat_app ops_option tests_option mem_option window_option rows_option cycles_option trace_option digits
 argument_tables = tt
 
 -- `clap` says exactly which words the programs take
 pub compile_app_is_simple : is_simple_and_free compile_app ≡ true
 unfolding argument_tables clap_on_literals
 compile_app_is_simple = refl
+
+pub assemble_app_is_simple : is_simple_and_free assemble_app ≡ true
+unfolding argument_tables clap_on_literals
+assemble_app_is_simple = refl
 
 pub simulate_app_is_simple : is_simple_and_free simulate_app ≡ true
 unfolding argument_tables clap_on_literals

@@ -17,8 +17,8 @@ use Rattle.clap.specs.declared.builder.value_parser.ValueParser.TheVariants as v
 use Rattle.clap.proofs.OnLiterals.{clap_on_literals}
 use Rattle.pc_word.proofs.Truth.{or_false}
 use Rattle.pc_command.specs.Matching.{Matches}
-use Rattle.pc_command.specs.Arguments.{compile_app, flag_found, flag_spelled, matches_taken, simulate_app, stat_app, view_app}
-use Rattle.pc_command.specs.Laws.{CompileMatchesAreWhole, SimulateMatchesAreWhole, StatMatchesAreWhole, ViewMatchesAreWhole}
+use Rattle.pc_command.specs.Arguments.{assemble_app, compile_app, flag_found, flag_spelled, matches_taken, simulate_app, stat_app, view_app}
+use Rattle.pc_command.specs.Laws.{AssembleMatchesAreWhole, CompileMatchesAreWhole, SimulateMatchesAreWhole, StatMatchesAreWhole, ViewMatchesAreWhole}
 use Rattle.pc_command.specs.Options.{NumberOption, cycles_option, mem_option, number_found, number_spelled, ops_option, rows_option, tests_option, trace_option, window_option}
 use Rattle.pc_command.proofs.Values.{Holds, IsPlainRule, is_plain_action, no_faults}
 use Rattle.pc_command.proofs.Walks.{settled_at_end, walk-holds}
@@ -146,6 +146,9 @@ not_lacking false e = absurd (cc)
 abbrev compile_rules : List Rule
 compile_rules = (built compile_app).top.rules
 
+abbrev assemble_rules : List Rule
+assemble_rules = (built assemble_app).top.rules
+
 abbrev simulate_rules : List Rule
 simulate_rules = (built simulate_app).top.rules
 
@@ -179,7 +182,16 @@ compile_rules_are_plain =
     (also (record { first = refl; plain = refl; valued = λ used. used; defaults = refl })
     tt))))))))
 
--- and each of the simulator
+-- each of the assembler
+assemble_rules_are_plain : AllByRecursion (IsPlainRule assemble_rules) assemble_rules
+unfolding argument_tables clap_on_literals
+assemble_rules_are_plain =
+    also (used_rule _ _ refl refl refl refl)
+    (also (used_rule _ _ refl refl refl refl)
+    (also (record { first = refl; plain = refl; valued = λ used. used; defaults = refl })
+    tt))
+
+-- each of the simulator
 simulate_rules_are_plain : AllByRecursion (IsPlainRule simulate_rules) simulate_rules
 unfolding argument_tables clap_on_literals
 simulate_rules_are_plain =
@@ -245,6 +257,18 @@ compile_matches-whole words matches e =
       window = number_of compile_rules matches are.hold window_option _ plain.1.1.1.1.1.0 refl refl (are.defaults.1.1.1.1.1.0 refl);
       rows = number_of compile_rules matches are.hold rows_option _ plain.1.1.1.1.1.1.0 refl refl (are.defaults.1.1.1.1.1.1.0 refl);
       report = flag_of compile_rules matches are.hold _ plain.1.1.1.1.1.1.1.0 refl (are.defaults.1.1.1.1.1.1.1.0 refl);
+    }
+
+-- nor of the assembler's
+pub assemble_matches-whole : AssembleMatchesAreWhole
+unfolding argument_tables
+assemble_matches-whole words matches e =
+    let are = matches_are_filled assemble_app words matches assemble_rules_are_plain e in
+    let plain = assemble_rules_are_plain in
+    let lacking = or_false _ _ (asks_for_none _ _ _ are.checked) in
+    record {
+      text = word_of assemble_rules matches are.hold _ plain.0 (not_lacking _ lacking.0);
+      object = word_of assemble_rules matches are.hold _ plain.1.0 (not_lacking _ (or_false _ _ lacking.1).0);
     }
 
 -- nor of the simulator's

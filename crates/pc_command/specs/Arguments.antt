@@ -65,6 +65,13 @@ view_app = app_with (codes "pview") (
     ∷ (flag_argument (codes "dot")
     ∷ []))
 
+-- `pasm TEXT -o OBJ`
+unfoldable pub assemble_app : App
+assemble_app = app_with (codes "pasm") (
+    word_argument (codes "TEXT")
+    ∷ (letter_argument 111 (codes "OBJ")
+    ∷ []))
+
 -- `pstat OBJ [--cycles N] [--rows] [--trace N] [--dot] [--json]`
 unfoldable pub stat_app : App
 stat_app = app_with (codes "pstat") (

@@ -4,10 +4,10 @@ use Rattle.std.specs.Option.{IsSome}
 use Rattle.clap.specs.Walk.{first_of, one_of}
 use Rattle.pc_word.specs.Ranges.{AreCycles, IsExtent, AreLimits}
 use Rattle.pc_command.specs.Matching.{Matches}
-use Rattle.pc_command.specs.Arguments.{compile_app, flag_found, matches_taken, simulate_app, stat_app, view_app}
+use Rattle.pc_command.specs.Arguments.{assemble_app, compile_app, flag_found, matches_taken, simulate_app, stat_app, view_app}
 use Rattle.pc_command.specs.Options.{cycles_option, mem_option, number_found, ops_option, rows_option, tests_option, trace_option, window_option}
 use Rattle.pc_command.specs.Requests.{CompileRequest, OfFile, OfSample, SourcePlace, SimulateRequest, compile_command_of, simulate_command_of, source_place_of}
-use Rattle.pc_command.specs.Requests.{StatRequest, stat_command_of, view_command_of}
+use Rattle.pc_command.specs.Requests.{StatRequest, assemble_command_of, stat_command_of, view_command_of}
 use Rattle.pc_command.specs.declared.stat.StatMode.TheVariants as mode
 
 -- ---- the ranges of a command
@@ -53,7 +53,12 @@ pub record AreCompileMatches (matches : Matches) : Type 0 where
   pub rows : IsSome (number_found rows_option matches)
   pub report : IsSome (flag_found (codes "report") matches)
 
--- so is all that is read of the simulator's
+-- so is all that is read of the assembler's
+pub record AreAssembleMatches (matches : Matches) : Type 0 where
+  pub text : IsSome (first_of (codes "TEXT") matches)
+  pub object : IsSome (first_of (codes "OBJ") matches)
+
+-- of the simulator's
 pub record AreSimulateMatches (matches : Matches) : Type 0 where
   pub object : IsSome (first_of (codes "OBJ") matches)
   pub cycles : IsSome (number_found cycles_option matches)
@@ -76,7 +81,11 @@ pub record AreStatMatches (matches : Matches) : Type 0 where
 abbrev pub CompileMatchesAreWhole : Type 0
 CompileMatchesAreWhole = (words : List (List ℕ)) (matches : Matches) → matches_taken compile_app words ≡ Some matches → AreCompileMatches matches
 
--- so do those of the simulator
+-- so do those of the assembler
+abbrev pub AssembleMatchesAreWhole : Type 0
+AssembleMatchesAreWhole = (words : List (List ℕ)) (matches : Matches) → matches_taken assemble_app words ≡ Some matches → AreAssembleMatches matches
+
+-- those of the simulator
 abbrev pub SimulateMatchesAreWhole : Type 0
 SimulateMatchesAreWhole = (words : List (List ℕ)) (matches : Matches) → matches_taken simulate_app words ≡ Some matches → AreSimulateMatches matches
 
@@ -109,6 +118,11 @@ abbrev pub PlainWordsCompile : Type 0
 PlainWordsCompile = (source object : List ℕ) (place : SourcePlace) → IsPlainWord source → IsPlainWord object → source_place_of source ≡ Some place
     → compile_command_of (source ∷ (codes "-o" ∷ (object ∷ []))) ≡ Some (plain_request place object)
 
+-- `TEXT -o OBJ` asks for the object of the listing at TEXT at OBJ
+abbrev pub PlainWordsAssemble : Type 0
+PlainWordsAssemble = (text object : List ℕ) → IsPlainWord text → IsPlainWord object
+    → assemble_command_of (text ∷ (codes "-o" ∷ (object ∷ []))) ≡ Some (record { text = text; object = object })
+
 -- `OBJ` asks for a run of the object at OBJ, with the default
 abbrev pub PlainWordSimulates : Type 0
 PlainWordSimulates = (object : List ℕ) → IsPlainWord object → simulate_command_of (object ∷ []) ≡ Some (record { object = object; cycles = 100000000 })
@@ -125,4 +139,4 @@ PlainWordProfiles = (object : List ℕ) → IsPlainWord object
 -- no words are no command
 abbrev pub NoWordsAreNoCommand : Type 0
 NoWordsAreNoCommand =
-    (compile_command_of [] ≡ None) × (simulate_command_of [] ≡ None) × (view_command_of [] ≡ None) × (stat_command_of [] ≡ None)
+    (compile_command_of [] ≡ None) × (assemble_command_of [] ≡ None) × (simulate_command_of [] ≡ None) × (view_command_of [] ≡ None) × (stat_command_of [] ≡ None)

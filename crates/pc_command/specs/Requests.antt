@@ -1,17 +1,18 @@
--- What the words of a command line ask of the compiler, of the simulator, of the viewer and of the profiler.
+-- What the words of a command line ask of the compiler, of the assembler, of the simulator, of the viewer and of the profiler.
 use Rattle.std.specs.Prelude.{ℕ, ◌^◌, ◌==◌, ◌&&◌, Bool, true, false, List, [], ◌∷◌, Option, Some, None, codes, if◌then◌else◌, nat_lt, option_and_then, option_map}
 use Rattle.std.specs.Str.Parse.{digits_value}
 use Rattle.pc_word.specs.NumberText.{is_numeral}
 use Rattle.pc_word.specs.declared.item.Limits.{Limits}
 use Rattle.pc_word.specs.declared.item.Extent.{Extent}
 use Rattle.pc_command.specs.Matching.{Matches}
-use Rattle.pc_command.specs.Arguments.{compile_app, flag_in, matches_taken, simulate_app, stat_app, view_app, word_in}
+use Rattle.pc_command.specs.Arguments.{assemble_app, compile_app, flag_in, matches_taken, simulate_app, stat_app, view_app, word_in}
 use Rattle.pc_command.specs.Options.{number_found, number_in, ops_option, tests_option, mem_option, window_option, rows_option, cycles_option, trace_option}
 use Rattle.pc_command.specs.declared.error.CommandError.{CommandError}
 use Rattle.pc_command.specs.declared.error.CommandError.TheVariants as error
 use Rattle.pc_command.specs.declared.source.SourceName.{SourceName}
 use Rattle.pc_command.specs.declared.source.SourceName.TheVariants as name
 use Rattle.pc_command.specs.declared.compile.CompileCommand.{CompileCommand}
+use Rattle.pc_command.specs.declared.assemble.AssembleCommand.{AssembleCommand}
 use Rattle.pc_command.specs.declared.simulate.SimulateCommand.{SimulateCommand}
 use Rattle.pc_command.specs.declared.view.ViewCommand.{ViewCommand}
 use Rattle.pc_command.specs.declared.stat.StatCommand.{StatCommand}
@@ -30,6 +31,11 @@ pub record CompileRequest : Type 0 where
   pub limits : Limits
   pub extent : Extent
   pub report : Bool
+
+-- what the assembler is asked to do: to write the object of a listing
+pub record AssembleRequest : Type 0 where
+  pub text : List ℕ
+  pub object : List ℕ
 
 -- what the simulator is asked to do
 pub record SimulateRequest : Type 0 where
@@ -83,6 +89,10 @@ compile_request_in matches = option_map (λ source. record {
   report = flag_in (codes "report") matches;
 }) (source_place_of (word_in (codes "SRC") matches))
 
+-- what the assembler's matches ask
+unfoldable pub assemble_request_in : Matches → AssembleRequest
+assemble_request_in matches = record { text = word_in (codes "TEXT") matches; object = word_in (codes "OBJ") matches }
+
 -- what the simulator's matches ask
 unfoldable pub simulate_request_in : Matches → SimulateRequest
 simulate_request_in matches = record { object = word_in (codes "OBJ") matches; cycles = number_in cycles_option matches }
@@ -117,6 +127,10 @@ stat_request_in matches = option_map (λ mode. record {
 unfoldable pub compile_command_of : List (List ℕ) → Option CompileRequest
 compile_command_of words = option_and_then compile_request_in (matches_taken compile_app words)
 
+-- what words ask of the assembler, if they are a command: `clap` takes them
+unfoldable pub assemble_command_of : List (List ℕ) → Option AssembleRequest
+assemble_command_of words = option_map assemble_request_in (matches_taken assemble_app words)
+
 -- what words ask of the simulator, if they are a command: `clap` takes them
 unfoldable pub simulate_command_of : List (List ℕ) → Option SimulateRequest
 simulate_command_of words = option_map simulate_request_in (matches_taken simulate_app words)
@@ -144,7 +158,11 @@ compile_request command = record {
   report = command.report;
 }
 
--- so for the simulator
+-- so for the assembler
+abbrev pub assemble_request : AssembleCommand → AssembleRequest
+assemble_request command = record { text = command.text.now; object = command.object.now }
+
+-- for the simulator
 abbrev pub simulate_request : SimulateCommand → SimulateRequest
 simulate_request command = record { object = command.object.now; cycles = command.cycles }
 

@@ -2,6 +2,7 @@
 #![tactic(auto)]
 
 mod arguments;
+mod assemble;
 mod compile;
 mod error;
 mod laws;
@@ -11,6 +12,7 @@ mod source;
 mod stat;
 mod view;
 
+pub use assemble::{AssembleCommand, assemble_command};
 pub use compile::{CompileCommand, compile_command};
 pub use error::CommandError;
 pub use laws::{laws_of_matches, laws_of_plain_words, laws_of_ranges};

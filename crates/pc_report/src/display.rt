@@ -15,6 +15,7 @@ impl fmt::Display for Speaker {
             Speaker::Pvm => "pvm",
             Speaker::Pview => "pview",
             Speaker::Pstat => "pstat",
+            Speaker::Pasm => "pasm",
         })
     }
 }
@@ -104,6 +105,7 @@ fn usage(who: Speaker) -> &'static str
         Speaker::Pvm => "usage: pvm OBJ [--cycles N]",
         Speaker::Pview => "usage: pview OBJ [--dot]",
         Speaker::Pstat => { "usage: pstat OBJ [--cycles N] [--rows | --trace N | --dot | --json]" }
+        Speaker::Pasm => "usage: pasm TEXT -o OBJ",
     }
 }
 

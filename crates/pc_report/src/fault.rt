@@ -13,6 +13,8 @@ pub enum Speaker {
     Pview,
     /// The profiler.
     Pstat,
+    /// The assembler.
+    Pasm,
 }
 
 /// Why a program does not end with success. It borrows the name of a file.
@@ -55,10 +57,10 @@ pub enum SourceFault {
     TooManyTokens,
     /// Its flow graph would have this number of nodes, which is more than 16,384.
     TooLarge { number: u32 },
-    /// With its calls written out it would have more than 65,536 statements, or more than 262,144 nodes of
+    /// With its calls inlined it would have more than 65,536 statements, or more than 262,144 nodes of
     /// expressions.
     InlinedTooBig,
-    /// With its calls written out it would be nested more than 256 deep.
+    /// With its calls inlined it would be nested more than 256 deep.
     InlinedTooHigh,
     /// A fault that has a line, counted from 1.
     AtLine { what: LineFault, line: u32 },

@@ -24,5 +24,6 @@ pub fn out_of_memory_line(who: Speaker) -> &'static [u8]
         Speaker::Pvm => b"pvm: out of memory\n",
         Speaker::Pview => b"pview: out of memory\n",
         Speaker::Pstat => b"pstat: out of memory\n",
+        Speaker::Pasm => b"pasm: out of memory\n",
     }
 }

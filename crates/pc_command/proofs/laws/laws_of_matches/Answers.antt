@@ -1,9 +1,12 @@
 -- The laws are lemmas.
-use Rattle.pc_command.proofs.Whole.{compile_matches-whole, simulate_matches-whole, stat_matches-whole, view_matches-whole}
+use Rattle.pc_command.proofs.Whole.{assemble_matches-whole, compile_matches-whole, simulate_matches-whole, stat_matches-whole, view_matches-whole}
 use Rattle.pc_command.proofs.laws.laws_of_matches.Goals as goal
 
 pub returns-clause-compiler : goal.returns-clause-compiler
 returns-clause-compiler c = compile_matches-whole
+
+pub returns-clause-assembler : goal.returns-clause-assembler
+returns-clause-assembler c = assemble_matches-whole
 
 pub returns-clause-simulator : goal.returns-clause-simulator
 returns-clause-simulator c = simulate_matches-whole

@@ -1,9 +1,12 @@
 -- The laws are lemmas.
-use Rattle.pc_command.proofs.PlainWords.{no_words-command, plain_word-profiles, plain_word-simulates, plain_word-views, plain_words-compile}
+use Rattle.pc_command.proofs.PlainWords.{no_words-command, plain_word-profiles, plain_word-simulates, plain_word-views, plain_words-assemble, plain_words-compile}
 use Rattle.pc_command.proofs.laws.laws_of_plain_words.Goals as goal
 
 pub returns-clause-compiler : goal.returns-clause-compiler
 returns-clause-compiler c = plain_words-compile
+
+pub returns-clause-assembler : goal.returns-clause-assembler
+returns-clause-assembler c = plain_words-assemble
 
 pub returns-clause-simulator : goal.returns-clause-simulator
 returns-clause-simulator c = plain_word-simulates
