@@ -1,0 +1,11 @@
+pub mod Facts
+pub mod Paths
+pub mod RowMatches
+pub mod Somewhere
+pub mod Copies
+pub mod Changes
+pub mod Claims
+pub mod LeafAgrees
+pub mod Shows
+pub mod Laws
+pub mod Examples

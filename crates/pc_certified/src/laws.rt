@@ -1,0 +1,25 @@
+//! The law of certificates, and examples. No function here does anything: each one's contract is a
+//! law, and that it is proved is all that it is for.
+ghost use Rattle.pc_certified.specs.Laws.{ShownCodesAgree};
+ghost use Rattle.pc_certified.specs.Examples.{EarlyIsShown, EnteringIsShown, LoopIsShown, PairIsShown, PrintingIsShown, RootIsShown, TestedIsShown};
+
+/// Where claims show it, a code does what a table of regions does, in both directions, on each input
+/// on which the table never faults.
+pub fn law_of_certificates()
+    ensures { ShownCodesAgree }
+{}
+
+/// Some codes are shown, so that the definitions are not empty: one that prints; a loop of one row
+/// that never ends; a row of two items of which one has moved; a row that leaves its window's root
+/// to the next row; a loop whose first iteration prints a literal where the others print a register;
+/// and two rows of which the first has an item of the region behind them, the second time from
+/// behind a test.
+pub fn examples_of_certificates()
+    ensures printing { PrintingIsShown }
+    ensures looping { LoopIsShown }
+    ensures pair { PairIsShown }
+    ensures root { RootIsShown }
+    ensures entering { EnteringIsShown }
+    ensures early { EarlyIsShown }
+    ensures tested { TestedIsShown }
+{}
