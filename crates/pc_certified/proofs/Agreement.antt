@@ -1,6 +1,6 @@
 -- A code that claims show agrees with its table.
 use Rattle.std.proofs.Common.{◌≡◌, ℕ, ◌+◌, ◌≤◌, List, [], ◌∷◌, ◌++◌, Option, Some, None, refl, sym, ◌∙◌, ap, subst, ◌⊎◌, inl, inr, arith}
-use Rattle.std.specs.Prelude.{ℤ, pos}
+use Rattle.std.specs.Prelude.{ℤ, pos, Contains}
 use Rattle.pc_word.specs.declared.item.Item.{Item}
 use Rattle.pc_word.specs.declared.item.End.TheVariants.{Ended, Trapped}
 use Rattle.pc_word.specs.Run.{Seen, Run, NeverFaults, Agree, after_printing, run_from}
@@ -8,6 +8,7 @@ use Rattle.pc_word.proofs.Runs.{Agree-trans, Agree-sym, run_from-grows}
 use Rattle.pc_word.specs.State.{State, start_state}
 use Rattle.pc_word.specs.Commit.{prints_of, state_after}
 use Rattle.pc_word.specs.Row.{RowOutcome, path_of, row_step}
+use Rattle.pc_word.specs.declared.item.Item.TheVariants.{Copy}
 use Rattle.pc_table.specs.Table.{Table, Next}
 use Rattle.pc_table.specs.RegionRun.{table_run, region_step, place_at}
 use Rattle.pc_table.specs.TableKeeps.{TableKeeps}
@@ -17,34 +18,31 @@ use Rattle.pc_machine.specs.MachineCode.{CodeRow, RowCode}
 use Rattle.pc_machine.specs.MachineRun.{Cycle, follow_leaf, after_row, run_row, machine_step, machine_run}
 use Rattle.pc_window.specs.declared.home.Home.{Home}
 use Rattle.pc_window.specs.Tree.{Exit, Tree, whole, home_state}
-use Rattle.pc_window.specs.Walk.{Walked, IsWhole, walk}
+use Rattle.pc_window.specs.Walk.{Walked, IsWhole, walk, after_item}
 use Rattle.pc_window.specs.WindowRun.{Window, follow, FormsHold}
 use Rattle.pc_window.specs.Unwinding.{front_tag}
 use Rattle.pc_window.specs.Steps.{IsProper, Positive, opened_window, front_row}
-use Rattle.pc_window.specs.Walk.{after_item}
-use Rattle.pc_word.specs.declared.item.Item.TheVariants.{Copy}
 use Rattle.pc_window.proofs.Openings.{Agree-later}
+use Rattle.pc_certified.specs.Facts.{Fact, StatesMatch, EachFact}
+use Rattle.pc_certified.specs.Claims.{Claim, ArrivesAt, MakesProgress}
+use Rattle.pc_certified.specs.LeafAgrees.{FactInRegion, LeafAgreesInRegion, LeafAgrees, leaf_ends, leaf_traps, leaf_arrives, leaf_changes, leaf_copies, leaf_enters}
+use Rattle.pc_certified.specs.Shows.{AgreesAtLeaf, Shows}
+use Rattle.pc_certified.specs.Laws.{ShownCodesAgree, ShownCodesAgreeOnInputs}
 use Rattle.pc_certified.proofs.Progress.{Nearer, OneCycle, ends, goes, Progresses, agrees}
 use Rattle.pc_certified.proofs.OneRow.{row_done}
 use Rattle.pc_certified.proofs.MarkedWalks.{printed_in, level_in, MarkedWalk, marked_walk}
 use Rattle.pc_certified.proofs.Onward.{follow_grows, follow_whole}
-use Rattle.pc_certified.proofs.WindowSteps.{change_kept, marks}
+use Rattle.pc_certified.proofs.WindowChanges.{change_kept, marks}
 use Rattle.pc_certified.proofs.Bases.{tags_positive, tags_from_front}
 use Rattle.pc_certified.proofs.Opened.{OpenedAt, opened_at}
 use Rattle.pc_certified.proofs.Nearer.{first_shown, shown_first, none_shown, seen_before, pending_nearer, level_nearer}
 use Rattle.pc_certified.proofs.Leaving.{Behind, nil_first, behind_going, behind_then, copy_kept, behind_copy, left_on}
 use Rattle.pc_certified.proofs.InRegion.{copy_alike, region_alike, ends_there, region_leads}
 use Rattle.pc_certified.proofs.Arrivals.{own_marks, free_none, none_free, Arrived, arrived}
-use Rattle.std.specs.Prelude.{Contains}
-use Rattle.pc_certified.specs.Facts.{Fact, StatesMatch, EachFact}
-use Rattle.pc_certified.specs.Claims.{Claim, ArrivesAt, MakesProgress}
-use Rattle.pc_certified.specs.LeafAgrees.{FactInRegion, LeafAgreesInRegion, LeafAgrees, leaf_ends, leaf_traps, leaf_arrives, leaf_changes, leaf_copies, leaf_enters}
-use Rattle.pc_certified.specs.Shows.{AgreesAtLeaf, Shows}
-use Rattle.pc_certified.specs.Laws.{ShownCodesAgree}
 
 module _ (table : Table) (keeps : TableKeeps table) (initial : List (List ℤ)) (code : RowCode) (claims : List Claim) (room : Positive code.limits)
     (shows : Shows table initial code claims) where
-  -- where the machine stands for the walk of a claim's window
+  -- where the machine is at a claim, and its state matches one of the claim's window
   record Place : Type 0 where
     claim : Claim
     among : Contains claims claim
@@ -128,7 +126,7 @@ module _ (table : Table) (keeps : TableKeeps table) (initial : List (List ℤ)) 
       never = λ n fault e. p.never (units + n) fault (ap (λ (x : Seen). x.end) (same n) ∙ e);
     }
 
-    -- to a claim that the window meets
+    -- to a claim at which the window arrives
     module _ (w : Window) (s : State) (held : List Fact) (target : Claim) (among : Contains claims target) (near : MakesProgress p.claim w target) (arrives : ArrivesAt w held target)
         (forms : FormsHold table w s) (alike : StatesMatch held machine s) (b : IsBehind w s) where
       arrives_there : Arrived table w s target machine
@@ -296,3 +294,9 @@ module _ (table : Table) (keeps : TableKeeps table) (initial : List (List ℤ)) 
 
 pub shown_codes_agree : ShownCodesAgree
 shown_codes_agree table initial code claims keeps room shows input never = agree_on table keeps initial code claims room shows input never
+
+pub shown_on_inputs : ShownCodesAgreeOnInputs
+shown_on_inputs table words code claims keeps formed shows never input are_words =
+    let limits = formed.limits in
+    let room : Positive code.limits = record { ops = limits.ops.0; tests = limits.tests.0; mem = limits.mem.0 } in
+    Agree-sym (table_run table words input) (machine_run code input) (shown_codes_agree table words code claims keeps room shows input (never input are_words))

@@ -1,7 +1,7 @@
--- A window that comes to a claim, and the claim's own window in its place.
+-- A window that arrives at a claim, and the claim's own window in its place.
 use Rattle.std.proofs.Common.{◌≡◌, ℕ, List, [], Option, Some, None, refl, sym, ◌∙◌, ap, subst, append-nil, arith}
-use Rattle.pc_word.specs.Run.{Run}
 use Rattle.pc_word.specs.State.{State}
+use Rattle.pc_linear.specs.Form.{Form}
 use Rattle.pc_table.specs.Table.{Table}
 use Rattle.pc_window.specs.Tree.{Tree, whole}
 use Rattle.pc_window.specs.Walk.{Walked, Leaves, Finishes, walk}
@@ -9,25 +9,21 @@ use Rattle.pc_window.specs.WindowRun.{Window, follow, FormsHold}
 use Rattle.pc_window.specs.Unwinding.{lesser_tag, least_tag, front_tag, or_zero}
 use Rattle.pc_canon.specs.Pairs.{Pair, Correspond}
 use Rattle.pc_canon.specs.Shift.{Maps, TreesAlike, both_then, both_either, both_exit, both_stop}
-use Rattle.pc_canon.specs.Shift.{both_trap as alike_traps}
 use Rattle.pc_canon.proofs.Alike.{home_states_alike}
 use Rattle.pc_canon.proofs.ShiftForms.{shifted_forms}
-use Rattle.pc_linear.specs.Form.{Form}
+use Rattle.pc_canon.specs.Shift.{both_trap as alike_traps}
+use Rattle.pc_certified.specs.Facts.{Fact, StatesMatch}
+use Rattle.pc_certified.specs.Claims.{Claim, ArrivesAt, unshifted, shifted_by}
 use Rattle.pc_certified.proofs.OnePath.{operands_same}
 use Rattle.pc_certified.proofs.Marked.{marked}
 use Rattle.pc_certified.proofs.MarkedWalks.{printed_in}
 use Rattle.pc_certified.proofs.ShiftMarks.{walks_alike, marks_alike, LeastAlike, least_alike, partner_state, partner_corresponds, operands_alike_valued}
-use Rattle.pc_certified.specs.Facts.{Fact, StatesMatch}
-use Rattle.pc_certified.specs.Claims.{Claim, ArrivesAt, unshifted, shifted_by}
 
 -- ---- trees without tags
 
 module _ (table : Table) where
   abbrev tree_of : Window → Tree
   tree_of w = whole w.front
-
-  abbrev pub free_of : Window → State → Run
-  free_of w s = follow table (walk table.arrays (whole w.front) s)
 
   -- what is pending in a window, from its own least tag
   abbrev pub own_marks : Window → State → Walked
@@ -43,9 +39,9 @@ module _ (table : Table) where
   none_free (Leaves printed region s) e = sym (append-nil printed) ∙ e
   none_free (Finishes printed end) e = e
 
-  -- ---- a window that comes to a claim
+  -- ---- a window that arrives at a claim
 
-  -- the window of a claim, in place of one that came to it: it walks the same, and as much is pending
+  -- the window of a claim, in place of one that arrived at it: it walks the same, and as much is pending
   pub record Arrived (comes : Window) (t : State) (target : Claim) (machine : State) : Type 0 where
     pub state : State
     pub alike : StatesMatch target.facts machine state

@@ -7,21 +7,17 @@ use Rattle.pc_word.specs.declared.item.Item.{Item}
 use Rattle.pc_word.specs.declared.item.Item.TheVariants.{Bin, Copy, Load, Store, Print, Read, More}
 use Rattle.pc_word.specs.declared.item.MachineFault.{MachineFault}
 use Rattle.pc_word.specs.Word.{holds}
-use Rattle.pc_word.specs.Run.{Seen}
 use Rattle.pc_word.specs.State.{State}
 use Rattle.pc_word.specs.Items.{operand_value}
 use Rattle.pc_word.specs.Commit.{prints_of, fault_of}
 use Rattle.pc_word.proofs.Lists.{all_both}
-use Rattle.pc_table.specs.Table.{Table}
 use Rattle.pc_window.specs.Tree.{Tree, Pending, Undecided, Exit, Stop_exit, Trap_exit}
 use Rattle.pc_window.specs.Walk.{Walked, Leaves, Finishes, IsWhole, printing, done_first, after_item, walk}
-use Rattle.pc_window.specs.WindowRun.{follow}
 use Rattle.pc_window.specs.Unwinding.{lesser_tag, least_tag, or_zero, front_tag}
-use Rattle.pc_window.proofs.Grafts.{follow-after}
+use Rattle.pc_certified.specs.Claims.{HasTestOrStub}
 use Rattle.pc_certified.proofs.Maxima.{max_second, max_less, min_both}
 use Rattle.pc_certified.proofs.Marked.{counted, mark, marked}
 use Rattle.pc_certified.proofs.MarkedWalks.{printed_in, level_in, printed_after, level_after, whole_below, walk_marked}
-use Rattle.pc_certified.specs.Claims.{HasTestOrStub}
 
 -- ---- from another base
 
@@ -126,10 +122,6 @@ tags_from_front t = tags_from (front_tag t) t (not_above_itself (least_tag t))
 unfoldable pub AllPositive : List ℤ → Type 0
 AllPositive printed = AllByRecursion (λ z. (k : ℕ) × (z ≡ pos (suc k))) printed
 
--- a walk with a level above 0, and only such tags
-pub record Positives (m : Walked) : Type 0 where
-  pub tags : AllPositive (printed_in m)
-
 prints_positive : (base tag : ℕ) → base ≤ tag → (x : Item) (s : State) → AllPositive (prints_of s (mark base tag x ∷ []))
 unfolding AllPositive
 prints_positive base tag le (Bin op d l r) s = tt
@@ -173,12 +165,12 @@ level_side false w v m k ok p q = q ok
 
 pub level_positive : (lengths : List ℕ) (base top : ℕ) (t : Tree) (s : State) → TagsFrom base t → (1 ≤ top) ⊎ HasTestOrStub t → IsWhole (walk lengths t s)
     → 1 ≤ level_in (walk lengths (marked base top t) s)
-level_positive lengths base top (Pending tag o x rest) s h turn ok =
+level_positive lengths base top (Pending tag o x rest) s h left ok =
     subst (λ (w : Walked). 1 ≤ level_in w) (sym (walk_marked lengths base top tag o x rest s))
     (level_first (fault_of lengths s (x ∷ [])) (prints_of s (x ∷ [])) (prints_of s (mark base tag x ∷ [])) (walk lengths rest (after_item lengths x s))
     (walk lengths (marked base top rest) (after_item lengths x s)) ok
-    (λ ok'. level_positive lengths base top rest (after_item lengths x s) h.1 turn ok'))
-level_positive lengths base top (Undecided tag o on p q) s h turn ok =
+    (λ ok'. level_positive lengths base top rest (after_item lengths x s) h.1 left ok'))
+level_positive lengths base top (Undecided tag o on p q) s h left ok =
     let m = max top (counted base tag) in
     let b = h.0 in
     let one : 1 ≤ counted base tag = omega (arith, b) in
@@ -186,24 +178,11 @@ level_positive lengths base top (Undecided tag o on p q) s h turn ok =
     let above : 1 ≤ m = omega (arith, one, le) in
     level_side (holds (operand_value s.names on)) (walk lengths p s) (walk lengths q s) (walk lengths (marked base m p) s) (walk lengths (marked base m q) s) ok
     (λ ok'. level_positive lengths base m p s h.1 (inl above) ok') (λ ok'. level_positive lengths base m q s h.2 (inl above) ok')
-level_positive lengths base top (Exit region tag homes) s h turn ok = omega (arith, h)
+level_positive lengths base top (Exit region tag homes) s h left ok = omega (arith, h)
 level_positive lengths base top Stop_exit s h (inl one) ok = one
-level_positive lengths base top Stop_exit s h (inr turn) ok = absurd turn
+level_positive lengths base top Stop_exit s h (inr left) ok = absurd left
 level_positive lengths base top (Trap_exit kind line) s h (inl one) ok = one
-level_positive lengths base top (Trap_exit kind line) s h (inr turn) ok = absurd turn
-
--- a tree has a test or a stub, or its walk ends
-pub turn_or_end : (table : Table) (t : Tree) (s : State) → (follow table (walk table.arrays t s) 0).end ≡ None → HasTestOrStub t
-turn_or_end table (Pending tag o x rest) s e = turn_or_end table rest (after_item table.arrays x s) (by_fault (fault_of table.arrays s (x ∷ [])) e)
-  where
-    by_fault : (f : Option MachineFault) → (follow table (done_first f (prints_of s (x ∷ [])) (walk table.arrays rest (after_item table.arrays x s))) 0).end ≡ None
-        → (follow table (walk table.arrays rest (after_item table.arrays x s)) 0).end ≡ None
-    by_fault (Some fault) h = absurd (cc)
-    by_fault None h = sym (ap (λ (z : Seen). z.end) (follow-after table (prints_of s (x ∷ [])) (walk table.arrays rest (after_item table.arrays x s)) 0)) ∙ h
-turn_or_end table (Undecided tag o on p q) s e = tt
-turn_or_end table (Exit region tag homes) s e = tt
-turn_or_end table Stop_exit s e = absurd (cc)
-turn_or_end table (Trap_exit kind line) s e = absurd (cc)
+level_positive lengths base top (Trap_exit kind line) s h (inr left) ok = absurd left
 
 -- a tree without tags has nothing pending
 pub bare_pending : (lengths : List ℕ) (base : ℕ) (t : Tree) (s : State) → least_tag t ≡ None → (printed_in (walk lengths (marked base 0 t) s) ≡ [])

@@ -8,23 +8,22 @@ use Rattle.pc_word.specs.declared.item.Operand.{Operand}
 use Rattle.pc_word.specs.declared.item.Operand.TheVariants.{Name, Lit}
 use Rattle.pc_word.specs.Word.{holds}
 use Rattle.pc_word.specs.State.{State}
-use Rattle.pc_word.specs.Items.{operand_value, dest_of, value_of}
+use Rattle.pc_word.specs.Items.{operand_value, dest_of, value_of, reads, reads_name}
 use Rattle.pc_word.specs.Commit.{prints_of, fault_of, state_after, writes}
+use Rattle.pc_word.proofs.Evaluated.{Alike, Alike-fault, Alike-prints, Alike-value, Alike-after, states_equal}
+use Rattle.pc_word.proofs.Truth.{or_first, or_second, or_true}
 use Rattle.pc_linear.specs.Form.{Form, Means}
 use Rattle.pc_linear.specs.Combine.{variable_form}
 use Rattle.pc_linear.proofs.Forms.{variable_means}
 use Rattle.pc_table.specs.RegionRun.{side_of}
-use Rattle.pc_word.specs.Items.{reads, reads_name}
+use Rattle.pc_table.proofs.Tests.{needed_above}
 use Rattle.pc_window.specs.declared.home.Home.{Home}
 use Rattle.pc_window.specs.Tree.{Tree, Pending, Undecided, Exit, Stop_exit, Trap_exit, home_of, state_at}
 use Rattle.pc_window.specs.Names.{uses, IsNew, IsKnown, ReadsKnown, HomesKnown, and_dest, Scoped, Unwritten}
 use Rattle.pc_window.specs.Walk.{Walked, Leaves, Finishes, printing, done_first, after_item, walk}
 use Rattle.pc_window.specs.Hold.{DefinedMeans, DefinedHold, HoldUnder, TreeHolds, Side}
 use Rattle.pc_window.specs.Opening.{Supply, changed, with_name, OperandBelow, ItemBelow, StubBelow, TreeBelow, FormsBelow}
-use Rattle.pc_word.proofs.Evaluated.{Alike, Alike-fault, Alike-prints, Alike-value, Alike-after, states_equal}
 use Rattle.pc_window.proofs.Uses.{unwritten, nat_eq-tells}
-use Rattle.pc_table.proofs.Tests.{needed_above}
-use Rattle.pc_word.proofs.Truth.{or_first, or_second, or_true}
 use Rattle.pc_window.proofs.Grafts.{nat_eq-same, nat_eq-less, with_name-extends, OperandBelow-later}
 use Rattle.pc_window.proofs.GraftForms.{GoesOn, Held}
 use Rattle.pc_window.proofs.Unwinding.{used_below, HoldUnder-after, Side-map, defined_later}
@@ -33,15 +32,15 @@ use Rattle.pc_window.proofs.Tidying.{AgreeOn, walk_agrees, defined_agrees, not_t
 use Rattle.pc_window.proofs.Parameters.{parameters_known}
 use Rattle.pc_window.proofs.Scopes.{scoped_more}
 use Rattle.pc_window.proofs.Undisturbed.{name-after, operand-after}
+use Rattle.pc_certified.specs.Somewhere.{Somewhere, here, behind_item, in_yes_side, in_no_side}
+use Rattle.pc_certified.specs.Copies.{IsUsedIn, CopyAddedHere, added, SameOrCopied, same, to_name, from_name, ItemsExchanged, in_bin, in_copy}
+use Rattle.pc_certified.specs.Copies.{in_load, in_store, in_print, in_read, in_more, HomesExchanged, no_home, one_home, TreesExchanged, in_item}
+use Rattle.pc_certified.specs.Copies.{in_test, in_stub, in_stop, in_trap, ExchangedHere, below_copy}
 use Rattle.pc_certified.proofs.Marked.{counted, mark, marked, uses_less}
 use Rattle.pc_certified.proofs.MarkedWalks.{walk_marked}
 use Rattle.pc_certified.proofs.Bases.{TagsFrom}
 use Rattle.pc_certified.proofs.Tags.{least_from}
 use Rattle.pc_certified.proofs.OneStub.{ItemBelow-later, held_side, defined_item, written_later}
-use Rattle.pc_certified.specs.Somewhere.{Somewhere, here, behind_item, in_yes_side, in_no_side}
-use Rattle.pc_certified.specs.Copies.{IsUsedIn, CopyAddedHere, added, SameOrCopied, same, to_name, from_name, ItemsExchanged, in_bin, in_copy}
-use Rattle.pc_certified.specs.Copies.{in_load, in_store, in_print, in_read, in_more, HomesExchanged, no_home, one_home, TreesExchanged, in_item}
-use Rattle.pc_certified.specs.Copies.{in_test, in_stub, in_stop, in_trap, ExchangedHere, below_copy}
 
 printing_nothing : (w : Walked) → printing [] w ≡ w
 printing_nothing (Leaves p region t) = refl

@@ -1,29 +1,21 @@
 -- The examples are shown in which a region is entered, or an item of the next region is done early.
-use Rattle.pc_word.specs.declared.item.Item.TheVariants.{Bin}
-use Rattle.pc_word.specs.declared.item.OpCode.TheVariants.{Add}
-use Rattle.pc_window.specs.Opening.{Supply}
-use Rattle.pc_window.specs.Names.{and_dest}
-use Rattle.pc_window.specs.Tree.{Tree}
-use Rattle.pc_window.specs.Move.{Below}
-use Rattle.pc_window.specs.Jump.{Lands_renamed, Past_yes}
-use Rattle.std.specs.Prelude.{List}
-use Rattle.pc_word.specs.declared.item.Item.TheVariants.{Load}
-use Rattle.pc_window.specs.declared.home.Home.{Home}
-use Rattle.pc_window.specs.Opening.{FormsBelow, first_supply, with_name}
-use Rattle.pc_window.proofs.GraftForms.{with_name-below}
-use Rattle.pc_window.proofs.Openings.{first_names-below}
+use Rattle.std.specs.Prelude.{List, pos, false}
 use Rattle.std.proofs.Common.{None, inl, ◌≡◌, ℕ, [], ◌∷◌, Some, refl, arith}
-use Rattle.std.specs.Prelude.{pos, false}
+use Rattle.pc_word.specs.declared.item.Item.TheVariants.{Bin, Load, Copy, Print}
+use Rattle.pc_word.specs.declared.item.OpCode.TheVariants.{Add}
 use Rattle.pc_word.specs.declared.item.Item.{Item}
-use Rattle.pc_word.specs.declared.item.Item.TheVariants.{Copy, Print}
 use Rattle.pc_word.specs.declared.item.Operand.{Operand}
 use Rattle.pc_word.specs.declared.item.Operand.TheVariants.{Name, Lit}
 use Rattle.pc_word.specs.Row.{Then, Either, At_leaf}
 use Rattle.pc_machine.specs.declared.tree.Leaf.TheVariants.{Goto, Stop}
-use Rattle.pc_window.specs.Tree.{Pending, Undecided, Exit, Stop_exit, Issued, Unfinished, whole}
-use Rattle.pc_window.specs.Names.{uses}
-use Rattle.pc_window.specs.Jump.{Root, Past_item, Lands, Behind_item}
-use Rattle.pc_window.specs.Move.{Into_node}
+use Rattle.pc_window.specs.Opening.{Supply, FormsBelow, first_supply, with_name}
+use Rattle.pc_window.specs.Names.{and_dest, uses}
+use Rattle.pc_window.specs.Tree.{Tree, Pending, Undecided, Exit, Stop_exit, Issued, Unfinished, whole}
+use Rattle.pc_window.specs.Move.{Below, Into_node}
+use Rattle.pc_window.specs.Jump.{Lands_renamed, Past_yes, Root, Past_item, Lands, Behind_item}
+use Rattle.pc_window.specs.declared.home.Home.{Home}
+use Rattle.pc_window.proofs.GraftForms.{with_name-below}
+use Rattle.pc_window.proofs.Openings.{first_names-below}
 use Rattle.pc_window.specs.WindowRun.{Window}
 use Rattle.pc_window.specs.Steps.{window_of, opened_window, Positive, IsProper}
 use Rattle.pc_window.proofs.Proper.{opens_proper}
@@ -63,7 +55,7 @@ arranged_proper = record {
 abbrev register_fact : Fact
 register_fact = record { source = Name 3; operand = Name 0 }
 
--- the bare stub that is left, inside the loop, is taken as its region: the loop's window, where register 3 has variable 0
+-- the stub that is left, inside the loop, is taken as its region: the loop's window, where register 3 has the value of variable 0
 literal_shown : IsShown enter_table enter_code (literal_claim ∷ register_claim ∷ []) literal_claim
 literal_shown = record {
   row = Either (Lit (pos 1)) (Then (Print (Lit (pos 5))) (Then (Copy 3 (Lit (pos 5))) (At_leaf (Goto 1)))) (At_leaf Stop);
@@ -99,7 +91,7 @@ register_shown = record {
       (both_leaf (all_matched tt) ([], none _, leaf_ends refl));
 }
 
--- region 0 is Copies alone: its window is a bare stub, and row 0 stands for the window of its region, where literal 5 is variable 0
+-- region 0 is a Copy alone: its window is a stub, and the claim of row 0 has the window of its region, where literal 5 has the value of variable 0
 pub entering_is_shown : EnteringIsShown
 entering_is_shown = record {
   arrays = refl;

@@ -13,20 +13,19 @@ use Rattle.pc_window.specs.Move.{Into_node}
 use Rattle.pc_window.specs.WindowRun.{Window, supply_of}
 use Rattle.pc_window.specs.Opening.{Grafted}
 use Rattle.pc_window.specs.Unwinding.{unwinds_once, unwinds_no_more}
-use Rattle.pc_window.proofs.Proper.{unwinds_proper}
+use Rattle.pc_window.proofs.Proper.{unwinds_proper, opens_proper}
+use Rattle.pc_window.specs.Steps.{UnwindsTo, window_of, grafted_of, opened_window, Positive, IsProper}
 use Rattle.pc_canon.specs.Shift.{ShiftedBy, both_either, both_exit, both_stop}
-use Rattle.pc_window.specs.Steps.{window_of, grafted_of, opened_window, Positive, IsProper}
-use Rattle.pc_window.proofs.Proper.{opens_proper}
 use Rattle.pc_canon.proofs.Membership.{distinct_to}
 use Rattle.pc_certified.specs.Facts.{same_print, same_store}
 use Rattle.pc_certified.specs.Paths.{all_matched, matches}
 use Rattle.pc_certified.specs.RowMatches.{row_item, front_item, both_test, both_leaf}
-use Rattle.pc_certified.specs.Changes.{OneChange, unwinds, no_change, one_change, IsMoved, moves, regroups}
+use Rattle.pc_certified.specs.Changes.{unwinds, no_change, one_change, IsMoved, moves, regroups}
 use Rattle.pc_certified.specs.Claims.{unshifted, shifted_by}
 use Rattle.pc_certified.specs.LeafAgrees.{region_changes, region_arrives, leaf_changes, leaf_arrives, leaf_ends}
 use Rattle.pc_certified.specs.Shows.{IsShown}
 use Rattle.pc_certified.specs.Examples.{small_limits, printing_table, printing_code, printing_claim, PrintingIsShown, loop_table, loop_code}
-use Rattle.pc_certified.specs.Examples.{loop_window, loop_claim, two_turns, LoopIsShown, two_limits, pair_table, pair_code, pair_arranged, pair_claim}
+use Rattle.pc_certified.specs.Examples.{loop_window, loop_claim, two_iterations, LoopIsShown, two_limits, pair_table, pair_code, pair_arranged, pair_claim}
 use Rattle.pc_certified.specs.Examples.{PairIsShown, root_code, root_arranged, store_window, print_claim, store_claim, RootIsShown}
 use Rattle.pc_certified.proofs.Listed.{none, first, only}
 
@@ -54,19 +53,28 @@ printing_is_shown = record {
 
 -- ---- the loop
 
--- one turn of the loop, which unwinds to two
-abbrev one_turn : ℕ → Window
-one_turn tag = window_of (Undecided tag 0 (Lit (pos 1)) (Exit 0 (suc tag) []) Stop_exit) (supply_of (opened_window loop_table small_limits 0)) small_limits (Some 0)
+-- one iteration of the loop, which unwinds to two
+abbrev one_iteration : ℕ → Window
+one_iteration tag = window_of (Undecided tag 0 (Lit (pos 1)) (Exit 0 (suc tag) []) Stop_exit) (supply_of (opened_window loop_table small_limits 0)) small_limits (Some 0)
 
 abbrev loop_grafted : ℕ → Grafted
-loop_grafted tag = record { tree = two_turns tag; names = supply_of (opened_window loop_table small_limits 0) }
+loop_grafted tag = record { tree = two_iterations tag; names = supply_of (opened_window loop_table small_limits 0) }
 
-turns_at_0 : OneChange loop_table (one_turn 0) (loop_window 0)
-turns_at_0 = unwinds 2 (record { unwound = loop_grafted 0; unwinds = unwinds_once (grafted_of (one_turn 0)) (loop_grafted 0) (loop_grafted 0) refl (unwinds_no_more (loop_grafted 0) refl); is = refl })
+unwinds_at_0 : UnwindsTo loop_table 2 (one_iteration 0) (loop_window 0)
+unwinds_at_0 = record {
+  unwound = loop_grafted 0;
+  unwinds = unwinds_once (grafted_of (one_iteration 0)) (loop_grafted 0) (loop_grafted 0) refl (unwinds_no_more (loop_grafted 0) refl);
+  is = refl;
+}
 
-turns_at_1 : OneChange loop_table (one_turn 1) (loop_window 1)
-turns_at_1 = unwinds 2 (record { unwound = loop_grafted 1; unwinds = unwinds_once (grafted_of (one_turn 1)) (loop_grafted 1) (loop_grafted 1) refl (unwinds_no_more (loop_grafted 1) refl); is = refl })
+unwinds_at_1 : UnwindsTo loop_table 2 (one_iteration 1) (loop_window 1)
+unwinds_at_1 = record {
+  unwound = loop_grafted 1;
+  unwinds = unwinds_once (grafted_of (one_iteration 1)) (loop_grafted 1) (loop_grafted 1) refl (unwinds_no_more (loop_grafted 1) refl);
+  is = refl;
+}
 
+-- the window of one iteration later is the same up to a shift by 1
 loop_again : ShiftedBy [] (loop_window 1) (loop_window 0)
 loop_again = (
   record { variables = []; shift = 0; other_shift = 1 },
@@ -85,15 +93,14 @@ loop_shown : IsShown loop_table loop_code (loop_claim ∷ []) loop_claim
 loop_shown = record {
   row = Either (Lit (pos 1)) (At_leaf (Goto 0)) (At_leaf Stop);
   at = refl;
-  proper = unwinds_proper loop_table 2 (one_turn 0) (loop_window 0)
-      (record { unwound = loop_grafted 0; unwinds = unwinds_once (grafted_of (one_turn 0)) (loop_grafted 0) (loop_grafted 0) refl (unwinds_no_more (loop_grafted 0) refl); is = refl })
-      (opens_proper loop_table small_limits 0 (one_turn 0) room refl);
+  proper = unwinds_proper loop_table 2 (one_iteration 0) (loop_window 0) unwinds_at_0
+      (opens_proper loop_table small_limits 0 (one_iteration 0) room refl);
   changes = no_change;
   does = both_test refl
       (both_leaf (all_matched tt) (
         [],
         none _,
-        leaf_changes turns_at_1 (leaf_arrives loop_claim (0, omega arith, refl)
+        leaf_changes (unwinds 2 unwinds_at_1) (leaf_arrives loop_claim (0, omega arith, refl)
             (inr (omega arith, tt)) (shifted_by [] loop_again (none _))),
       ))
       (both_leaf (all_matched tt) ([], none _, leaf_ends refl));
@@ -105,7 +112,7 @@ loop_is_shown = record {
   initial = refl;
   held = [];
   start = none _;
-  begins = region_changes turns_at_0 (region_arrives loop_claim (0, omega arith, refl) (unshifted refl (none _)));
+  begins = region_changes (unwinds 2 unwinds_at_0) (region_arrives loop_claim (0, omega arith, refl) (unshifted refl (none _)));
   each = only _ _ loop_shown;
 }
 

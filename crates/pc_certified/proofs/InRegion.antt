@@ -1,6 +1,6 @@
--- From a region on: where a leaf of the code agrees with a window, it ends as the region's run does, or leads to a claim's window.
+-- From a region on: where a leaf agrees with a window, it ends as the region's run does, or leads to a claim's window.
 use Rattle.std.proofs.Common.{append-nil, ◌≡◌, ℕ, ◌+◌, ◌≤◌, List, [], Some, refl, sym, ◌∙◌, ap, arith}
-use Rattle.std.specs.Prelude.{ℤ, Bool, true, false, if◌then◌else◌, nat_eq}
+use Rattle.std.specs.Prelude.{ℤ, Bool, true, false, if◌then◌else◌, nat_eq, Contains}
 use Rattle.pc_word.specs.declared.item.Item.TheVariants.{Copy}
 use Rattle.pc_word.specs.declared.item.Operand.{Operand}
 use Rattle.pc_word.specs.declared.item.Operand.TheVariants.{Name, Lit}
@@ -22,16 +22,15 @@ use Rattle.pc_window.specs.WindowRun.{Window, follow, FormsHold}
 use Rattle.pc_window.specs.Steps.{IsProper, Positive}
 use Rattle.pc_window.proofs.Grafts.{nat_eq-same}
 use Rattle.pc_window.proofs.Uses.{nat_eq-tells}
-use Rattle.pc_certified.proofs.OnePath.{operands_same}
-use Rattle.pc_certified.proofs.WindowSteps.{change_kept}
-use Rattle.pc_certified.proofs.Opened.{opened_at}
-use Rattle.pc_certified.proofs.Leaving.{copy_kept}
-use Rattle.pc_certified.proofs.Arrivals.{arrived}
-use Rattle.std.specs.Prelude.{Contains}
 use Rattle.pc_certified.specs.Facts.{Fact, FactHolds, StatesMatch, EachFact}
 use Rattle.pc_certified.specs.Claims.{Claim}
 use Rattle.pc_certified.specs.LeafAgrees.{FactAfterCopy, other_operand, copied_name, FactInRegion, LeafAgreesInRegion, region_ends, region_traps}
 use Rattle.pc_certified.specs.LeafAgrees.{region_arrives, region_changes, region_copies, region_enters}
+use Rattle.pc_certified.proofs.OnePath.{operands_same}
+use Rattle.pc_certified.proofs.WindowChanges.{change_kept}
+use Rattle.pc_certified.proofs.Opened.{opened_at}
+use Rattle.pc_certified.proofs.Leaving.{copy_kept}
+use Rattle.pc_certified.proofs.Arrivals.{arrived}
 
 -- ---- facts on the way
 
@@ -83,9 +82,6 @@ module _ (table : Table) (keeps : TableKeeps table) (limits : Limits) (room : Po
     (done_trap : (kind : TrapKind) (line units : ℕ) → ((n : ℕ) → X (units + n) ≡ record { printed = out; end = Some (Trapped kind line) }) → Done (Trap kind line))
     (done_at : (target : Claim) (t : State) (units : ℕ) → Contains claims target → StatesMatch target.facts machine t → FormsHold table target.window t → 1 ≤ units
     → ((n : ℕ) → X (units + n) ≡ after_printing out (follow table (walk table.arrays (whole target.window.front) t) n)) → Done (Goto target.row)) where
-  abbrev IsOn : ℕ → Window → State → Type 0
-  IsOn units w s = (n : ℕ) → X (units + n) ≡ after_printing out (follow table (walk table.arrays (whole w.front) s) n)
-
   pub region_leads : {held : List Fact} {leaf : Leaf} {w : Window} → LeafAgreesInRegion table limits claims held leaf w → (s : State) → IsProper w → FormsHold table w s
       → StatesMatch held machine s → (units : ℕ) → 1 ≤ units → ((n : ℕ) → X (units + n) ≡ after_printing out (follow table (walk table.arrays (whole w.front) s) n)) → Done leaf
   region_leads (region_ends {w} is) s proper forms alike units one same =

@@ -24,14 +24,14 @@ use Rattle.pc_window.proofs.CutRows.{row_items, row_leaf, whole_front_of, become
 use Rattle.pc_window.proofs.Cutting.{rest_of, front_path}
 use Rattle.pc_window.proofs.Proper.{becomes_proper}
 use Rattle.pc_window.proofs.Unwinding.{HoldUnder-after}
+use Rattle.pc_certified.specs.Changes.{ChangesTo}
+use Rattle.pc_certified.specs.Claims.{Claim}
 use Rattle.pc_certified.proofs.MarkedWalks.{printed_in, level_in}
 use Rattle.pc_certified.proofs.Onward.{follow_whole, not_ended}
 use Rattle.pc_certified.proofs.Bases.{TagsFrom}
 use Rattle.pc_certified.proofs.Tags.{from_rest}
-use Rattle.pc_certified.proofs.WindowSteps.{ChangeKept, changes_kept, never_on, walked, marks}
+use Rattle.pc_certified.proofs.WindowChanges.{ChangeKept, changes_kept, never_on, walked, marks}
 use Rattle.pc_certified.proofs.CutMarks.{cut_on}
-use Rattle.pc_certified.specs.Changes.{ChangesTo}
-use Rattle.pc_certified.specs.Claims.{Claim}
 
 module _ (table : Table) (keeps : TableKeeps table) (base : ℕ) where
   -- ---- from a tree to what is left, after numbers were printed
@@ -61,7 +61,7 @@ module _ (table : Table) (keeps : TableKeeps table) (base : ℕ) where
       let v = walked table keeps base rest new in
       not_ended table w (printing out v) units (λ n. follow-after table out v n ∙ sym (same n)) (ap (λ (x : Seen). x.end) (follow-after table out v 0) ∙ none) (follow table w 0).end refl
 
-  -- a step further
+  -- a change further
   pub behind_then : (t : Tree) (s : State) (out : List ℤ) (new : State) (w v : Window) → Behind t s out new (whole w.front) → ChangeKept table keeps base w v new
       → Behind t s out new (whole v.front)
   behind_then t s out new w v b k =

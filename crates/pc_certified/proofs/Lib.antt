@@ -8,7 +8,7 @@ pub mod Units
 pub mod Onward
 pub mod OneStub
 pub mod Copies
-pub mod WindowSteps
+pub mod WindowChanges
 pub mod Maxima
 pub mod CutMarks
 pub mod Leaving

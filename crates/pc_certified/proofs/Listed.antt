@@ -1,4 +1,4 @@
--- What holds of each element of a list, by the list's elements.
+-- What holds of each element of a list that is written out.
 use Rattle.std.proofs.Common.{zero, suc, List, [], ◌∷◌, subst, arith}
 use Rattle.std.specs.Prelude.{Contains}
 

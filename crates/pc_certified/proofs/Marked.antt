@@ -6,16 +6,15 @@ use Rattle.pc_word.specs.declared.item.Item.{Item}
 use Rattle.pc_word.specs.declared.item.Item.TheVariants.{Bin, Copy, Load, Store, Print, Read, More}
 use Rattle.pc_word.specs.declared.item.Operand.{Operand}
 use Rattle.pc_word.specs.declared.item.Operand.TheVariants.{Lit}
-use Rattle.pc_word.specs.Items.{dest_of, is_effect}
+use Rattle.pc_word.specs.Items.{dest_of, is_effect, reads, reads_name, only_computes}
 use Rattle.pc_word.specs.Commit.{writes}
-use Rattle.pc_word.specs.Items.{reads, reads_name, only_computes}
+use Rattle.pc_word.specs.Naming.{map_operands, renamed, with_dest}
 use Rattle.pc_linear.specs.Form.{Form}
 use Rattle.pc_window.specs.Tree.{Tree, Pending, Undecided, Exit, Stop_exit, Trap_exit, Front, Issued, Split, Unfinished, whole}
 use Rattle.pc_window.specs.Names.{uses, ReadsKnown, IsNew, and_dest, Unwritten, NotWritten}
 use Rattle.pc_window.specs.declared.conflict.Touch.{Touch}
 use Rattle.pc_window.specs.Conflict.{touch_of, NoDependence, NoStoreDependence, NoConflict, MayFollow}
 use Rattle.pc_window.specs.Rename.{mapped}
-use Rattle.pc_word.specs.Naming.{map_operands, renamed, with_dest}
 use Rattle.pc_window.specs.Jump.{combined, Rises, Root, Past_item, Past_yes, Past_no, DividesTree, Root_test, Past, GivesForm, MayComeBehind, NewForm}
 use Rattle.pc_window.specs.Jump.{EntersFront, Lands, Lands_renamed, Lands_test, Lands_once, Behind_item, On_yes, On_no}
 use Rattle.pc_window.specs.Move.{is_deletable, IsUnused, Moves, Into_node, Deletes, Below, On_yes_side, On_no_side}
@@ -27,6 +26,7 @@ use Rattle.pc_certified.specs.Changes.{EntersWithSameTags, MovesWithSameTags}
 abbrev pub counted : ℕ → ℕ → ℕ
 counted base tag = suc tag - base
 
+-- an item that prints the number of its tag in place of what it prints
 abbrev pub mark : (base tag : ℕ) → Item → Item
 mark base tag (Bin op dest left right) = Bin op dest left right
 mark base tag (Copy dest from) = Copy dest from
@@ -36,6 +36,7 @@ mark base tag (Print value) = Print (Lit (pos (counted base tag)))
 mark base tag (Read dest) = Read dest
 mark base tag (More dest) = More dest
 
+-- a tree of such items, whose ends leave with the number of their stub's tag, or with the greatest of those above
 abbrev pub marked : (base top : ℕ) → Tree → Tree
 marked base top (Pending tag origin item rest) = Pending tag origin (mark base tag item) (marked base top rest)
 marked base top (Undecided tag origin on on_yes on_no) =
@@ -44,6 +45,7 @@ marked base top (Exit region tag homes) = Exit (counted base tag) 0 []
 marked base top Stop_exit = Exit top 0 []
 marked base top (Trap_exit kind line) = Exit top 0 []
 
+-- the same of a front
 abbrev pub marked_front : (base top : ℕ) → Front → Front
 marked_front base top (Issued tag origin item rest) = Issued tag origin (mark base tag item) (marked_front base top rest)
 marked_front base top (Split tag origin on on_yes on_no) =

@@ -5,15 +5,14 @@ use Rattle.pc_word.specs.State.{State}
 use Rattle.pc_window.specs.Tree.{Tree}
 use Rattle.pc_window.specs.Walk.{Walked, Leaves, Finishes, IsWhole, walk}
 use Rattle.pc_window.specs.Unwinding.{least_tag, or_zero, front_tag}
+use Rattle.pc_certified.specs.Claims.{HasTestOrStub}
 use Rattle.pc_certified.proofs.Tags.{least_from}
-use Rattle.pc_certified.proofs.Bases.{TagsFrom}
+use Rattle.pc_certified.proofs.Bases.{TagsFrom, lowered_word, lowered, base_changed, tags_from_front, AllPositive, tags_positive, level_positive, bare_pending}
 use Rattle.pc_certified.proofs.Progress.{Nearer}
 use Rattle.pc_certified.proofs.Marked.{marked}
 use Rattle.pc_certified.proofs.MarkedWalks.{printed_in, level_in}
-use Rattle.pc_certified.proofs.Bases.{lowered_word, lowered, base_changed, tags_from_front, AllPositive, tags_positive, level_positive, bare_pending}
-use Rattle.pc_certified.specs.Claims.{HasTestOrStub}
 
--- the first of the numbers that are shown
+-- the first of the numbers that are printed
 abbrev pub first_shown : List ℤ → Option ℕ
 first_shown [] = None
 first_shown (pos k ∷ zs) = Some k

@@ -8,10 +8,10 @@ use Rattle.pc_word.specs.State.{State}
 use Rattle.pc_word.specs.Items.{operand_value}
 use Rattle.pc_word.specs.Commit.{prints_of, fault_of, state_after}
 use Rattle.pc_word.specs.Row.{Row, path_of, leaf_of, RowOutcome, Commits, commit_of, row_step}
-use Rattle.pc_certified.proofs.OnePath.{operands_same, PathAfter, path_after}
 use Rattle.pc_certified.specs.Facts.{Fact, StatesMatch}
 use Rattle.pc_certified.specs.Paths.{EffectsMatch}
 use Rattle.pc_certified.specs.RowMatches.{RowMatches, row_item, front_item, both_test, both_leaf}
+use Rattle.pc_certified.proofs.OnePath.{operands_same, PathAfter, path_after}
 
 -- on the paths that are taken
 pub record PathsTaken {L M : Type 0} (facts : List Fact) (AtLeaf : List Item → List Item → L → M → Type 0) (items others : List Item) (leaf : L) (left : M) : Type 0 where

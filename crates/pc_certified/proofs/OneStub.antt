@@ -7,19 +7,18 @@ use Rattle.pc_word.specs.declared.item.Operand.{Operand}
 use Rattle.pc_word.specs.declared.item.Operand.TheVariants.{Lit, Name}
 use Rattle.pc_word.specs.Word.{holds}
 use Rattle.pc_word.specs.State.{State}
-use Rattle.pc_word.specs.Items.{dest_of, operand_value, value_of}
+use Rattle.pc_word.specs.Items.{dest_of, operand_value, value_of, reads, reads_name}
 use Rattle.pc_word.specs.Commit.{state_after, writes}
+use Rattle.pc_word.proofs.Truth.{or_first, or_second, or_true}
 use Rattle.pc_linear.specs.Form.{Form, Means}
 use Rattle.pc_table.specs.Table.{Table, region_tree}
-use Rattle.pc_word.specs.Items.{reads, reads_name}
+use Rattle.pc_table.proofs.Tests.{needed_above}
 use Rattle.pc_window.specs.declared.home.Home.{Home}
 use Rattle.pc_window.specs.Tree.{Exit, Pending, Stop_exit, Trap_exit, Tree, Undecided, home_of}
 use Rattle.pc_window.specs.Names.{IsNew, Scoped, and_dest, uses}
 use Rattle.pc_window.specs.Hold.{DefinedHold, DefinedMeans, HoldUnder, ParametersHold, Side}
 use Rattle.pc_window.specs.Opening.{FormsBelow, ItemBelow, Supply, TreeBelow, graft}
 use Rattle.pc_window.proofs.Forms.{Means-agree}
-use Rattle.pc_table.proofs.Tests.{needed_above}
-use Rattle.pc_word.proofs.Truth.{or_first, or_second, or_true}
 use Rattle.pc_window.proofs.Grafts.{Extends, Extends-refl, OperandBelow-later, nat_eq-same}
 use Rattle.pc_window.proofs.GraftForms.{GoesOn, GraftHolds, Held, HomesMean, OperandMeans, graft-below, graft_holds}
 use Rattle.pc_window.proofs.Uses.{nat_eq-tells}

@@ -1,4 +1,4 @@
--- What a step of a window brings: the same run, some units on; and what is pending stays, or the walk's stub is some units on.
+-- What a change of a window brings: the same run, some units on; and what is pending stays, or the walk's stub is some units on.
 use Rattle.std.proofs.Common.{◌≡◌, ℕ, ◌+◌, ◌≤◌, Bool, true, false, List, [], ◌∷◌, ◌++◌, Option, Some, None, refl, sym}
 use Rattle.std.proofs.Common.{◌∙◌, ap, subst, ◌⊎◌, inl, inr, append_assoc, append-nil, zero-add, arith}
 use Rattle.std.specs.Prelude.{ℤ, max, if◌then◌else◌}

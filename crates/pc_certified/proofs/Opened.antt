@@ -5,12 +5,12 @@ use Rattle.pc_word.specs.State.{State}
 use Rattle.pc_table.specs.Table.{Table, Next}
 use Rattle.pc_table.specs.RegionRun.{region_run}
 use Rattle.pc_table.specs.TableKeeps.{TableKeeps}
+use Rattle.pc_table.specs.Loops.{innermost_loop}
 use Rattle.pc_window.specs.Tree.{Tree, whole}
 use Rattle.pc_window.specs.Walk.{walk}
 use Rattle.pc_window.specs.Hold.{TreeHolds}
 use Rattle.pc_window.specs.WindowRun.{follow, FormsHold}
 use Rattle.pc_window.specs.Opening.{opened, first_supply, first_home}
-use Rattle.pc_table.specs.Loops.{innermost_loop}
 use Rattle.pc_window.specs.Steps.{opened_window, IsProper, Positive}
 use Rattle.pc_window.proofs.Openings.{first_home-below, first_same, opened_holds}
 use Rattle.pc_window.proofs.CutRows.{whole_front_of}

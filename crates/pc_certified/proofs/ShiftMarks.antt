@@ -14,14 +14,13 @@ use Rattle.pc_linear.specs.Form.{Form}
 use Rattle.pc_window.specs.Tree.{Tree, Undecided, home_state}
 use Rattle.pc_window.specs.Walk.{Walked, Leaves, done_first, after_item, walk}
 use Rattle.pc_window.specs.Unwinding.{lesser_tag, least_tag}
-use Rattle.pc_canon.specs.Pairs.{Pair, corresponds, Correspond}
+use Rattle.pc_canon.specs.Pairs.{Pair, corresponds, Correspond, OperandsAlike}
 use Rattle.pc_canon.specs.Shift.{ItemsAlike, both_bin, both_copy, both_load, both_store, both_print, both_read, both_more, Maps, TreesAlike, both_then, both_either, both_exit, both_stop, both_trap}
 use Rattle.pc_canon.proofs.Alike.{operands_alike, home_states_alike}
 use Rattle.pc_canon.proofs.ShiftRuns.{items_alike, fault_alike, states_alike}
 use Rattle.pc_certified.proofs.Maxima.{min_shift}
 use Rattle.pc_certified.proofs.Marked.{counted, mark, marked}
 use Rattle.pc_certified.proofs.MarkedWalks.{walk_marked}
-use Rattle.pc_canon.specs.Pairs.{OperandsAlike}
 
 -- ---- walks
 
@@ -145,7 +144,7 @@ partner_corresponds pairs s = record {
   same_input = refl;
 }
 
--- operands that meet have the same value
+-- operands that are alike have the same value
 pub operands_alike_valued : (pairs : List Pair) (s t : State) → Correspond pairs s t → (a b : Operand) → OperandsAlike pairs a b → operand_value s.names a ≡ operand_value t.names b
 operands_alike_valued pairs s t c (Name x) (Name y) h = c.same_names x y h
 operands_alike_valued pairs s t c (Lit a) (Lit b) h = h

@@ -1,4 +1,4 @@
--- No step lowers the tags of a window: what is at least a number stays so.
+-- No change lowers the tags of a window: what is at least a number stays so.
 use Rattle.std.proofs.Common.{◌≡◌, ℕ, suc, ◌≤◌, Bool, true, false, Option, Some, None, refl, subst, arith}
 use Rattle.std.specs.Prelude.{ℤ, if◌then◌else◌, min}
 use Rattle.pc_word.specs.declared.item.Item.{Item}

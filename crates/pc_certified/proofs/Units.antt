@@ -1,6 +1,6 @@
 -- The walk of a region's tree with homes in place of variables is the region's run, one unit later at least.
 use Rattle.std.proofs.Common.{◌≡◌, ℕ, suc, ◌+◌, [], ◌∷◌, Option, refl, sym, ◌∙◌, ap, subst, arith}
-use Rattle.std.specs.Prelude.{ℤ, Bool, true, false, if◌then◌else◌}
+use Rattle.std.specs.Prelude.{ℤ, Bool, true, false, if◌then◌else◌, ◌≤◌}
 use Rattle.pc_word.specs.declared.item.Item.{Item}
 use Rattle.pc_word.specs.declared.item.Item.TheVariants.{Copy}
 use Rattle.pc_word.specs.declared.item.Operand.{Operand}
@@ -11,19 +11,17 @@ use Rattle.pc_word.specs.Word.{holds}
 use Rattle.pc_word.specs.State.{State}
 use Rattle.pc_word.specs.Items.{operand_value}
 use Rattle.pc_word.specs.Commit.{prints_of, fault_of, state_after}
+use Rattle.pc_word.proofs.Evaluated.{Alike-prints, Alike-fault}
 use Rattle.pc_table.specs.Table.{TableTree, Does, Asks, Next, Stops_here, Traps_here, Table, region_tree}
-use Rattle.pc_table.specs.RegionRun.{Place, place_at, side_of, region_step, region_run}
+use Rattle.pc_table.specs.RegionRun.{Place, place_at, side_of, region_step, region_run, arrive}
 use Rattle.pc_table.specs.TableKeeps.{TableKeeps, untested, By_one}
 use Rattle.pc_window.specs.Tree.{Tree, Pending, Undecided, state_at}
 use Rattle.pc_window.specs.Walk.{Walked, done_first, walk}
 use Rattle.pc_window.specs.WindowRun.{follow}
 use Rattle.pc_window.specs.Opening.{Supply, changed, with_name, at_home, Brought, Moves_home, Gets_name, Stays_plain, brought, graft_item, graft}
-use Rattle.pc_word.proofs.Evaluated.{Alike-prints, Alike-fault}
-use Rattle.pc_window.proofs.Grafts.{HomesBelow, Does_same, brought_same, HomesBelow-later, HomesBelow-changed}
-use Rattle.pc_window.proofs.Grafts.{HomesBelow-new, at_home_below, after_gives, after_plain, after_copy, stepped, one_more, at_home_value}
+use Rattle.pc_window.proofs.Grafts.{HomesBelow, Does_same, brought_same, HomesBelow-later, HomesBelow-changed, HomesBelow-new, at_home_below}
+use Rattle.pc_window.proofs.Grafts.{after_gives, after_plain, after_copy, stepped, one_more, at_home_value}
 use Rattle.pc_window.proofs.Follows.{graft-extends, Later, FollowsRun, followed}
-use Rattle.pc_table.specs.RegionRun.{arrive}
-use Rattle.std.specs.Prelude.{◌≤◌}
 
 -- what follows a walk is what is seen some units later, one at least
 pub record LaterOn (table : Table) (w : Walked) (tree : TableTree) (t : State) : Type 0 where

@@ -2,11 +2,11 @@
 use Rattle.std.specs.Prelude.{suc, ℕ, pos, [], ◌∷◌, Some, None}
 use Rattle.pc_word.specs.declared.item.Item.TheVariants.{Bin, Copy, Load, Store, Print}
 use Rattle.pc_word.specs.declared.item.OpCode.TheVariants.{Add}
-use Rattle.pc_linear.specs.Form.{Form}
-use Rattle.pc_linear.specs.Combine.{plus, variable_form, constant_form}
 use Rattle.pc_word.specs.declared.item.Operand.TheVariants.{Name, Lit}
 use Rattle.pc_word.specs.declared.item.Limits.{Limits}
 use Rattle.pc_word.specs.Row.{Then, Either, At_leaf}
+use Rattle.pc_linear.specs.Form.{Form}
+use Rattle.pc_linear.specs.Combine.{plus, variable_form, constant_form}
 use Rattle.pc_table.specs.Table.{Table, Does, Asks, Next, Stops_here}
 use Rattle.pc_machine.specs.declared.tree.Leaf.TheVariants.{Goto, Stop}
 use Rattle.pc_machine.specs.MachineCode.{RowCode}
@@ -56,18 +56,18 @@ loop_table = record {
 abbrev pub loop_code : RowCode
 loop_code = record { limits = small_limits; registers = 128; arrays = []; initial = []; rows = Either (Lit (pos 1)) (At_leaf (Goto 0)) (At_leaf Stop) ∷ [] }
 
--- two turns of the loop, from a tag on
-abbrev pub two_turns : ℕ → Tree
-two_turns tag = Undecided tag 0 (Lit (pos 1)) (Undecided (suc tag) 0 (Lit (pos 1)) (Exit 0 (suc (suc tag)) []) Stop_exit) Stop_exit
+-- two iterations of the loop, from a tag on
+abbrev pub two_iterations : ℕ → Tree
+two_iterations tag = Undecided tag 0 (Lit (pos 1)) (Undecided (suc tag) 0 (Lit (pos 1)) (Exit 0 (suc (suc tag)) []) Stop_exit) Stop_exit
 
--- its window, unwound: two turns
+-- its window, unwound: two iterations
 abbrev pub loop_window : ℕ → Window
-loop_window tag = window_of (two_turns tag) (supply_of (opened_window loop_table small_limits 0)) small_limits (Some 0)
+loop_window tag = window_of (two_iterations tag) (supply_of (opened_window loop_table small_limits 0)) small_limits (Some 0)
 
 abbrev pub loop_claim : Claim
 loop_claim = record { row = 0; rank = 0; window = loop_window 0; facts = []; arranged = loop_window 0 }
 
--- the row's one leaf that goes on leads to the same window, one turn later
+-- the row's one leaf that goes on leads to the same window, one iteration later
 abbrev pub LoopIsShown : Type 0
 LoopIsShown = Shows loop_table [] loop_code (loop_claim ∷ [])
 
@@ -154,7 +154,7 @@ enter_table = record {
   arrays = [];
 }
 
--- the first turn prints the literal and copies it to register 3; the others print register 3
+-- the first iteration prints the literal and copies it to register 3; the others print register 3
 abbrev pub enter_code : RowCode
 enter_code = record {
   limits = small_limits;
@@ -171,7 +171,7 @@ enter_arranged = record (opened_window enter_table small_limits 1) {
   front = Split 0 0 (Lit (pos 1)) (Issued 0 1 (Print (Name 0)) (Unfinished (Exit 1 1 (record { variable = 0; value = Name 0 } ∷ [])))) (Unfinished Stop_exit);
 }
 
--- literal 5 stands for variable 0 of the loop's window, and then register 3 does
+-- literal 5 has the value of variable 0 of the loop's window, and then register 3 does
 abbrev pub literal_claim : Claim
 literal_claim = record {
   row = 0;
@@ -204,13 +204,13 @@ early_table = record {
   arrays = 8 ∷ [];
 }
 
--- the load stands in row 0
+-- the load stands in row 0; the array begins with 3
 abbrev pub early_code : RowCode
 early_code = record {
   limits = two_limits;
   registers = 128;
   arrays = 8 ∷ [];
-  initial = [] ∷ [];
+  initial = (pos 3 ∷ []) ∷ [];
   rows = Then (Print (Lit (pos 1))) (Then (Load 4 0 (Lit (pos 5))) (At_leaf (Goto 1))) ∷ Then (Print (Name 4)) (At_leaf Stop) ∷ [];
 }
 
@@ -241,7 +241,7 @@ late_claim = record {
 }
 
 abbrev pub EarlyIsShown : Type 0
-EarlyIsShown = Shows early_table ([] ∷ []) early_code (early_claim ∷ late_claim ∷ [])
+EarlyIsShown = Shows early_table ((pos 3 ∷ []) ∷ []) early_code (early_claim ∷ late_claim ∷ [])
 
 -- ---- the same above a test
 

@@ -24,7 +24,7 @@ is_ordered (Print value) = true
 is_ordered (Read dest) = true
 is_ordered _ = false
 
--- an item may stand above one that was matched: above a print or read there is no other
+-- an item may be left above one that is matched: above a print or read no other print or read
 abbrev pub MayPrecede : Item → Item → Type 0
 MayPrecede item above = is_ordered item ≡ true → is_ordered above ≡ false
 

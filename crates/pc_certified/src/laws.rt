@@ -1,12 +1,14 @@
 //! The law of certificates, and examples. No function here does anything: each one's contract is a
 //! law, and that it is proved is all that it is for.
-ghost use Rattle.pc_certified.specs.Laws.{ShownCodesAgree};
+ghost use Rattle.pc_certified.specs.Laws.{ShownCodesAgree, ShownCodesAgreeOnInputs};
 ghost use Rattle.pc_certified.specs.Examples.{EarlyIsShown, EnteringIsShown, LoopIsShown, PairIsShown, PrintingIsShown, RootIsShown, TestedIsShown};
 
 /// Where claims show it, a code does what a table of regions does, in both directions, on each input
-/// on which the table never faults.
+/// on which the table never faults; so a well-formed code does it on every input of words, where the
+/// table faults on none of them.
 pub fn law_of_certificates()
-    ensures { ShownCodesAgree }
+    ensures agree { ShownCodesAgree }
+    ensures on_inputs { ShownCodesAgreeOnInputs }
 {}
 
 /// Some codes are shown, so that the definitions are not empty: one that prints; a loop of one row

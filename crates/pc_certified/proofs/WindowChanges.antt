@@ -1,5 +1,5 @@
--- What the steps of a claim keep: windows stay proper, forms hold, and the walk and what is pending go on.
-use Rattle.std.proofs.Common.{◌≡◌, ℕ, ◌+◌, Bool, true, false, List, [], ◌∷◌, Option, refl, sym, ◌∙◌, ap, subst}
+-- What changes of a window keep: windows stay proper, forms hold, and the walk and what is pending go on.
+use Rattle.std.proofs.Common.{◌≡◌, ℕ, ◌+◌, Bool, true, false, List, [], ◌∷◌, Option, refl, sym, ◌∙◌, ap, subst, None, inl, inr, arith}
 use Rattle.std.specs.Prelude.{ℤ, max, nat_eq, if◌then◌else◌}
 use Rattle.pc_word.specs.declared.item.Item.{Item}
 use Rattle.pc_word.specs.declared.item.Item.TheVariants.{Bin, Copy, Load, Store, Print, Read, More}
@@ -8,6 +8,7 @@ use Rattle.pc_word.specs.Run.{Seen, NeverFaults}
 use Rattle.pc_word.specs.State.{State}
 use Rattle.pc_word.specs.Items.{operand_value, value_of}
 use Rattle.pc_word.specs.Commit.{prints_of, fault_of}
+use Rattle.pc_word.proofs.Evaluated.{bare}
 use Rattle.pc_linear.specs.Form.{Form}
 use Rattle.pc_table.specs.Table.{Table}
 use Rattle.pc_table.specs.RegionRun.{side_of}
@@ -17,30 +18,26 @@ use Rattle.pc_window.specs.Names.{uses}
 use Rattle.pc_window.specs.Walk.{Walked, Leaves, Finishes, printing, done_first, after_item, walk}
 use Rattle.pc_window.specs.Hold.{TreeHolds}
 use Rattle.pc_window.specs.WindowRun.{Window, follow, FormsHold, supply_of}
-use Rattle.pc_window.specs.Opening.{Supply, Grafted}
+use Rattle.pc_window.specs.Opening.{Supply, Grafted, with_name}
 use Rattle.pc_window.specs.Unwinding.{Unwinds, unwinds_no_more, unwinds_once}
 use Rattle.pc_window.specs.Tidying.{tidied, above}
 use Rattle.pc_window.specs.Steps.{IsProper, grafted_of, window_of}
-use Rattle.pc_word.proofs.Evaluated.{bare}
 use Rattle.pc_window.proofs.Uses.{nat_eq-tells}
-use Rattle.pc_window.proofs.Once.{Sound}
-use Rattle.pc_window.proofs.Tidying.{AgreeOn, walk_agrees, tidied_tidy, tidied_holds}
-use Rattle.pc_window.proofs.Unwinding.{unwound_is, IsUnwound}
+use Rattle.pc_window.proofs.Once.{Sound, defines}
+use Rattle.pc_window.proofs.Tidying.{AgreeOn, walk_agrees, tidied_tidy, tidied_holds, not_true}
+use Rattle.pc_window.proofs.Unwinding.{unwound_is, IsUnwound, Unwound, at_stub, below, at_yes, at_no, unwound-uses, unwound-extends, used_below}
 use Rattle.pc_window.proofs.Soundness.{unwound-sound}
 use Rattle.pc_window.proofs.Rebasing.{rebased_holds}
 use Rattle.pc_window.specs.Rebasing.{rebased}
 use Rattle.pc_window.proofs.Repeated.{once_is, unwinds_holds}
-use Rattle.pc_window.proofs.Proper.{proper_sound, unwinds_proper, tidies_proper, rebases_proper}
+use Rattle.pc_window.proofs.Proper.{proper_sound, unwinds_proper, tidies_proper, rebases_proper, becomes_proper}
 use Rattle.pc_window.proofs.Parameters.{parameters_known}
 use Rattle.pc_window.proofs.CutRows.{whole_front_of}
 use Rattle.pc_window.proofs.Moving.{moves_keep}
-use Rattle.pc_window.specs.Opening.{with_name}
 use Rattle.pc_window.proofs.GraftForms.{with_name-below}
-use Rattle.pc_window.proofs.Once.{defines}
-use Rattle.pc_window.proofs.Tidying.{not_true}
-use Rattle.pc_window.proofs.Unwinding.{Unwound, at_stub, below, at_yes, at_no, unwound-uses, unwound-extends, used_below}
-use Rattle.pc_window.proofs.Proper.{becomes_proper}
-use Rattle.std.proofs.Common.{None, inl, inr, arith}
+use Rattle.pc_certified.specs.Somewhere.{Somewhere, here, behind_item, in_yes_side, in_no_side}
+use Rattle.pc_certified.specs.Copies.{AddsCopy, UsesCopy}
+use Rattle.pc_certified.specs.Changes.{rebases, IsMoved, unwinds, tidies, moves, regroups, opens, adds_copy, uses_copy, OneChange, ChangesTo, no_change, one_change, OpensHere, the_stub, OpensStub}
 use Rattle.pc_certified.proofs.OneStub.{unwound_held, unwound-tree, unwound-forms, unwound-defines, unwound-once, once_scoped, written_later}
 use Rattle.pc_certified.proofs.Copies.{copy_walks, copy_marks, copy_tags, copy_below, copy_scoped, copy_holds, use_walks, use_marked, use_defined, use_tags, use_below, use_scoped}
 use Rattle.pc_certified.proofs.Bases.{TagsFrom}
@@ -48,9 +45,6 @@ use Rattle.pc_certified.proofs.Tags.{from_moved, from_tidied, from_unwound}
 use Rattle.pc_certified.proofs.Marked.{counted, mark, marked, uses_less, moves_marked}
 use Rattle.pc_certified.proofs.MarkedWalks.{walk_marked, scoped_marked, defined_marked, marked_walk}
 use Rattle.pc_certified.proofs.Onward.{Onwards, onwards_same, onwards_then, unwound_on, follow_whole}
-use Rattle.pc_certified.specs.Somewhere.{Somewhere, here, behind_item, in_yes_side, in_no_side}
-use Rattle.pc_certified.specs.Copies.{AddsCopy, UsesCopy}
-use Rattle.pc_certified.specs.Changes.{rebases, IsMoved, unwinds, tidies, moves, regroups, opens, adds_copy, uses_copy, OneChange, ChangesTo, no_change, one_change, OpensHere, the_stub, OpensStub}
 
 -- ---- tidying
 
@@ -143,7 +137,7 @@ module _ (table : Table) (keeps : TableKeeps table) (base : ℕ) where
       let at = once_is table loop number g m e in
       unwinds_from loop number m k u (from_unwound base table loop g.names m.names (unwound_is table loop at.least g.names g.tree m at.is) h)
 
-  -- what a step keeps
+  -- what a change keeps
   pub record ChangeKept (w v : Window) (s : State) : Type 0 where
     pub proper : IsProper v
     pub forms : FormsHold table v s
@@ -293,7 +287,7 @@ module _ (table : Table) (keeps : TableKeeps table) (base : ℕ) where
     tags = subst (TagsFrom base) (sym r.tree);
   }
 
-  -- ---- steps
+  -- ---- changes one after another
 
   pub changes_kept : (w v : Window) (s : State) → ChangesTo table w v
       → IsProper w → FormsHold table w s → NeverFaults (follow table (walked (whole w.front) s)) → ChangeKept w v s
