@@ -23,3 +23,4 @@ pub mod Agreement
 pub mod Listed
 pub mod Examples
 pub mod EnteredExamples
+pub mod PipelinedExample

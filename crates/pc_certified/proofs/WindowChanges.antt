@@ -106,6 +106,29 @@ tidied_marks lengths base top (Trap_exit kind line) s = refl
 
 -- ---- one change
 
+module _ (table : Table) where
+  -- one stub becomes its region's tree
+  as_unwound : (loop : Option ℕ) (names after : Supply) {t u : Tree} → Somewhere (OpensHere table loop names after) t u → Unwound table loop names after t u
+  as_unwound loop names after (here (the_stub region tag homes tree is kept)) = at_stub region tag homes tree is kept
+  as_unwound loop names after (behind_item tag origin item o) = below tag origin item (as_unwound loop names after o)
+  as_unwound loop names after (in_yes_side tag origin on other o) = at_yes tag origin on other (as_unwound loop names after o)
+  as_unwound loop names after (in_no_side tag origin on one o) = at_no tag origin on one (as_unwound loop names after o)
+
+  pub opens_proper : (w v : Window) → OpensStub table w v → IsProper w → IsProper v
+  opens_proper w v o p =
+      let names = supply_of w in
+      let u = as_unwound o.loop names o.after o.opens in
+      let sound = proper_sound w p in
+      let below = unwound-tree table o.loop names o.after p.forms_below u p.names_below in
+      let forms = unwound-forms table o.loop names o.after p.forms_below u p.names_below in
+      let once = unwound-once table o.loop names o.after p.forms_below u p.names_below sound.once in
+      let apart = λ (x : ℕ) (used : uses o.tree x ≡ true).
+      (let old = unwound-uses table o.loop names o.after p.forms_below u x used in
+      let none = sound.apart x old in
+      let lt = used_below w.next (whole w.front) x p.names_below old in
+      not_true (defines o.tree x) (λ d. elim (unwound-defines table o.loop names o.after p.forms_below u x d) [ inl q ↦ absurd (cc) | inr q ↦ absurd (omega (arith, lt, q)) ])) in
+      subst IsProper (sym o.is) (becomes_proper o.tree o.after w.limits w.inside (uses o.tree) below forms p.room (once_scoped o.tree (uses o.tree) (λ z u. u) apart once))
+
 module _ (table : Table) (keeps : TableKeeps table) (base : ℕ) where
   -- the walk of a tree, and its marks
   abbrev pub walked : Tree → State → Walked
@@ -174,36 +197,14 @@ module _ (table : Table) (keeps : TableKeeps table) (base : ℕ) where
         tags = from_moved base m.moves;
       }
 
-  -- one stub becomes its region's tree
-  as_unwound : (loop : Option ℕ) (names after : Supply) {t u : Tree} → Somewhere (OpensHere table loop names after) t u → Unwound table loop names after t u
-  as_unwound loop names after (here (the_stub region tag homes tree is kept)) = at_stub region tag homes tree is kept
-  as_unwound loop names after (behind_item tag origin item o) = below tag origin item (as_unwound loop names after o)
-  as_unwound loop names after (in_yes_side tag origin on other o) = at_yes tag origin on other (as_unwound loop names after o)
-  as_unwound loop names after (in_no_side tag origin on one o) = at_no tag origin on one (as_unwound loop names after o)
-
-  pub opens_proper : (w v : Window) → OpensStub table w v → IsProper w → IsProper v
-  opens_proper w v o p =
-      let names = supply_of w in
-      let u = as_unwound o.loop names o.after o.opens in
-      let sound = proper_sound w p in
-      let below = unwound-tree table o.loop names o.after p.forms_below u p.names_below in
-      let forms = unwound-forms table o.loop names o.after p.forms_below u p.names_below in
-      let once = unwound-once table o.loop names o.after p.forms_below u p.names_below sound.once in
-      let apart = λ (x : ℕ) (used : uses o.tree x ≡ true).
-      (let old = unwound-uses table o.loop names o.after p.forms_below u x used in
-      let none = sound.apart x old in
-      let lt = used_below w.next (whole w.front) x p.names_below old in
-      not_true (defines o.tree x) (λ d. elim (unwound-defines table o.loop names o.after p.forms_below u x d) [ inl q ↦ absurd (cc) | inr q ↦ absurd (omega (arith, lt, q)) ])) in
-      subst IsProper (sym o.is) (becomes_proper o.tree o.after w.limits w.inside (uses o.tree) below forms p.room (once_scoped o.tree (uses o.tree) (λ z u. u) apart once))
-
   open_kept : (w v : Window) (s : State) → OpensStub table w v → IsProper w → FormsHold table w s → NeverFaults (follow table (walked (whole w.front) s)) → ChangeKept w v s
   open_kept w v s o proper forms never =
       let names = supply_of w in
-      let u = as_unwound o.loop names o.after o.opens in
+      let u = as_unwound table o.loop names o.after o.opens in
       let held = unwound_held table o.loop names o.after proper.forms_below u proper.names_below s forms.0 forms.1 in
       let more = unwound-extends table o.loop names o.after proper.forms_below u in
       subst (λ (x : Window). ChangeKept w x s) (sym o.is)
-      (becomes w o.tree o.after s (subst IsProper o.is (opens_proper w v o proper)) (
+      (becomes w o.tree o.after s (subst IsProper o.is (opens_proper table w v o proper)) (
         held.values,
         record {
           parameters = λ x used.

@@ -9,3 +9,4 @@ pub mod LeafAgrees
 pub mod Shows
 pub mod Laws
 pub mod Examples
+pub mod PipelinedExample

@@ -1,6 +1,7 @@
 //! The law of certificates, and examples. No function here does anything: each one's contract is a
 //! law, and that it is proved is all that it is for.
 ghost use Rattle.pc_certified.specs.Laws.{ShownCodesAgree, ShownCodesAgreeOnInputs};
+ghost use Rattle.pc_certified.specs.PipelinedExample.{PipelinedIsShown};
 ghost use Rattle.pc_certified.specs.Examples.{EarlyIsShown, EnteringIsShown, LoopIsShown, PairIsShown, PrintingIsShown, RootIsShown, TestedIsShown};
 
 /// Where claims show it, a code does what a table of regions does, in both directions, on each input
@@ -14,8 +15,8 @@ pub fn law_of_certificates()
 /// Some codes are shown, so that the definitions are not empty: one that prints; a loop of one row
 /// that never ends; a row of two items of which one has moved; a row that leaves its window's root
 /// to the next row; a loop whose first iteration prints a literal where the others print a register;
-/// and two rows of which the first has an item of the region behind them, the second time from
-/// behind a test.
+/// two rows of which the first has an item of the region behind them, the second time from behind a
+/// test; and a pipelined loop, whose row prints in one iteration and adds for the next.
 pub fn examples_of_certificates()
     ensures printing { PrintingIsShown }
     ensures looping { LoopIsShown }
@@ -24,4 +25,5 @@ pub fn examples_of_certificates()
     ensures entering { EnteringIsShown }
     ensures early { EarlyIsShown }
     ensures tested { TestedIsShown }
+    ensures pipelined { PipelinedIsShown }
 {}

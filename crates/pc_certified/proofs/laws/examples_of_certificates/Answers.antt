@@ -1,5 +1,6 @@
 use Rattle.pc_certified.proofs.Examples.{printing_is_shown, loop_is_shown, pair_is_shown, root_is_shown}
 use Rattle.pc_certified.proofs.EnteredExamples.{entering_is_shown, early_is_shown, tested_is_shown}
+use Rattle.pc_certified.proofs.PipelinedExample.{pipelined_is_shown}
 use Rattle.pc_certified.proofs.laws.examples_of_certificates.Goals as goal
 
 pub returns-clause-printing : goal.returns-clause-printing
@@ -22,3 +23,6 @@ returns-clause-early c = early_is_shown
 
 pub returns-clause-tested : goal.returns-clause-tested
 returns-clause-tested c = tested_is_shown
+
+pub returns-clause-pipelined : goal.returns-clause-pipelined
+returns-clause-pipelined c = pipelined_is_shown
