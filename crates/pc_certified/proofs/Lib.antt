@@ -9,6 +9,8 @@ pub mod Onward
 pub mod OneStub
 pub mod Copies
 pub mod WindowChanges
+pub mod Narrowed
+pub mod Jumps
 pub mod Maxima
 pub mod CutMarks
 pub mod Leaving

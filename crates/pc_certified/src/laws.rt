@@ -1,6 +1,6 @@
 //! The law of certificates, and examples. No function here does anything: each one's contract is a
 //! law, and that it is proved is all that it is for.
-ghost use Rattle.pc_certified.specs.Laws.{ShownCodesAgree, ShownCodesAgreeOnInputs};
+ghost use Rattle.pc_certified.specs.Laws.{FillingIsMadeOfMoves, JumpsAreMoves, ShownCodesAgree, ShownCodesAgreeOnInputs};
 ghost use Rattle.pc_certified.specs.PipelinedExample.{PipelinedIsShown};
 ghost use Rattle.pc_certified.specs.Examples.{EarlyIsShown, EnteringIsShown, LoopIsShown, PairIsShown, PrintingIsShown, RootIsShown, TestedIsShown};
 
@@ -10,6 +10,13 @@ ghost use Rattle.pc_certified.specs.Examples.{EarlyIsShown, EnteringIsShown, Loo
 pub fn law_of_certificates()
     ensures agree { ShownCodesAgree }
     ensures on_inputs { ShownCodesAgreeOnInputs }
+{}
+
+/// Where an item or test comes up into a window's front as in filling, that is one of the changes by
+/// which a claim's window may be brought to its row; so filling is a chain of them.
+pub fn laws_of_moves()
+    ensures jumps { JumpsAreMoves }
+    ensures filling { FillingIsMadeOfMoves }
 {}
 
 /// Some codes are shown, so that the definitions are not empty: one that prints; a loop of one row

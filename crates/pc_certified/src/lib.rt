@@ -6,4 +6,4 @@
 
 mod laws;
 
-pub use laws::{examples_of_certificates, law_of_certificates};
+pub use laws::{examples_of_certificates, law_of_certificates, laws_of_moves};
