@@ -1,4 +1,4 @@
-//! The law of certificates, and examples. No function here does anything: each one's contract is a
+//! Laws of certificates, and examples. No function here does anything: each one's contract is a
 //! law, and that it is proved is all that it is for.
 ghost use Rattle.pc_certified.specs.Laws.{FillingIsMadeOfMoves, JumpsAreMoves, ShownCodesAgree, ShownCodesAgreeOnInputs};
 ghost use Rattle.pc_certified.specs.PipelinedExample.{PipelinedIsShown};
