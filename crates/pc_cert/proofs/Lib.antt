@@ -1,0 +1,4 @@
+pub mod ReadLists
+pub mod ReadTexts
+pub mod ReadParts
+pub mod ReadingLaws

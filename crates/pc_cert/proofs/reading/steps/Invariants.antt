@@ -1,0 +1,7 @@
+use Rattle.std.proofs.Common.{◌≡◌, ◌-◌}
+use Rattle.pc_cert.specs.Reading.{many_at, counted_at, step_at}
+use Rattle.pc_cert.proofs.ReadLists.{with_front}
+use Rattle.pc_cert.proofs.reading.steps.Given as goal
+
+abbrev pub invariant-loop : goal.invariant-loop
+invariant-loop l = with_front l.steps.items (many_at step_at (l.count - l.counter) l.rest) ≡ counted_at step_at l.bytes

@@ -1,0 +1,5 @@
+//! Tests of certificates as bytes.
+#![tactic(auto)]
+
+#[cfg(test)]
+mod texts;
