@@ -13,7 +13,8 @@ use Rattle.pc_assembly.specs.declared.line.Stage.TheVariants as stage
 use Rattle.pc_assembly.specs.declared.line.Content.TheVariants as content
 use Rattle.pc_assembly.specs.Operands.{register_here, negative_here, positive_here, literal_here, operand_here, operator_of, operator_here}
 use Rattle.pc_assembly.specs.Items.{call_at, computed_on, computed_here, source_here, assignment_here, print_at}
-use Rattle.pc_assembly.specs.Parts.{test_at, goto_at, leaf_here, part_here}
+use Rattle.pc_assembly.specs.Parts.{test_at, numbered_row, target_here, goto_at, leaf_here, part_here}
+use Rattle.pc_assembly.specs.Names.{is_name, is_named, names_after, rows_after, names_from}
 use Rattle.pc_assembly.specs.Notes.{plain_reason, choice_here, note_here}
 use Rattle.pc_assembly.specs.Lines.{part_line, line_here}
 use Rattle.pc_assembly.specs.Text.{lines_of}
@@ -32,32 +33,32 @@ use Rattle.pc_object.specs.Reading.{operator_at as object_operator, test_at as o
 use Rattle.pc_object.specs.Reading.{rows_at, row_at, tag_at, tag_of, behind_tag, step_at, fields_at, word_at, notes_at}
 use Rattle.pc_assembly.specs.Words.{number_is}
 use Rattle.pc_assembly.specs.Limits.{title_at, memory_at, limit_at, limits_at, lengths_here, arrays_at, registers_here, header_at}
-use Rattle.pc_assembly.specs.Lines.{share_at, shares_at, counts_here, row_line, note_line}
+use Rattle.pc_assembly.specs.Lines.{used_at, usage_at, usage_here, numbered_at, row_here, row_line, note_line}
 use Rattle.pc_assembly.specs.Listing.{first_line, line_read, lines_read, body_read}
-use Rattle.pc_assembly.specs.Assembled.{initial_from, front_bytes}
+use Rattle.pc_assembly.specs.Assembled.{initial_from, header_bytes}
 use Rattle.pc_assembly.specs.Object.{assembled, listing_reading}
 
 -- an item in a row with no test goes on
-prints : line_here [] (stage.Part side.Neither 0 1) (codes "print(7)")
+prints : line_here [] [] (stage.Part side.Neither 0 1) (codes "print(7)")
     ≡ Ok (stage.Part side.Neither 0 1, content.Part (part.Item (items.Print (Lit (pos 7)))))
 unfolding line_here part_line part_here print_at operand_here literal_here positive_here
 prints = refl
 
 -- a leaf behind a yes side is followed by the no side
-goes : line_here [] (stage.Part side.Yes 1 3) (codes "yes  goto row 2 ; a comment")
+goes : line_here [] [] (stage.Part side.Yes 1 3) (codes "yes  goto row 2 ; a comment")
     ≡ Ok (stage.Part side.No 0 3, content.Part (part.Leaf (Goto 2)))
-unfolding line_here part_line part_here leaf_here goto_at
+unfolding line_here part_line part_here leaf_here goto_at target_here numbered_row
 goes = refl
 
 -- an operator, registers and a literal, with and without blanks
-subtracts : line_here [] (stage.Part side.Neither 0 1) (codes "r1=r20 - -3")
+subtracts : line_here [] [] (stage.Part side.Neither 0 1) (codes "r1=r20 - -3")
     ≡ Ok (stage.Part side.Neither 0 1, content.Part (part.Item (items.Bin ops.Sub 1 (Name 20) (Lit (negsuc 2)))))
 unfolding line_here part_line part_here assignment_here source_here computed_here computed_on
     register_here operand_here operator_here operator_of literal_here negative_here
 subtracts = refl
 
 -- where the yes side is due, no other side may stand
-misses_yes : line_here [] (stage.Part side.Yes 1 1) (codes "no stop") ≡ Err (record { left = 7; expected = expect.Word word.Yes })
+misses_yes : line_here [] [] (stage.Part side.Yes 1 1) (codes "no stop") ≡ Err (record { left = 7; expected = expect.Word word.Yes })
 unfolding line_here part_line
 misses_yes = refl
 
@@ -82,9 +83,9 @@ prints_seven : listing_reading (flat_map line (
       };
       notes = [];
     })
-unfolding listing_reading first_line body_read line_read lines_read assembled front_bytes initial_from lines_of
+unfolding listing_reading first_line body_read line_read lines_read assembled header_bytes initial_from lines_of
     header_at title_at memory_at limit_at limits_at lengths_here arrays_at registers_here
-    line_here row_line counts_here shares_at share_at number_is part_line part_here print_at leaf_here
+    names_from names_after rows_after is_named is_name line_here row_line row_here numbered_at usage_here usage_at used_at number_is part_line part_here print_at leaf_here
     operand_here literal_here positive_here
     object_reading object_at object_header version_at object_limits object_limit array_count_at storage_at register_count_at lengths_at
     row_count_at rows_at row_at tag_at tag_of behind_tag step_at fields_at object_operand word_at notes_at
@@ -109,12 +110,12 @@ sum = record {
 
 -- its listing is read back
 sum_read_back : listing_reading (listing_text sum) ≡ Ok sum
-unfolding listing_reading first_line body_read line_read lines_read assembled front_bytes initial_from lines_of
+unfolding listing_reading first_line body_read line_read lines_read assembled header_bytes initial_from lines_of
     header_at title_at memory_at limit_at limits_at lengths_here arrays_at registers_here
-    line_here row_line counts_here shares_at share_at number_is part_line part_here print_at leaf_here
+    names_from names_after rows_after is_named is_name line_here row_line row_here numbered_at usage_here usage_at used_at number_is part_line part_here print_at leaf_here
     operand_here literal_here positive_here
     object_reading object_at object_header version_at object_limits object_limit array_count_at storage_at register_count_at lengths_at
     row_count_at rows_at row_at tag_at tag_of behind_tag step_at fields_at object_operand word_at notes_at
     sum digits note_line limit_words count_words data_line assignment_here source_here computed_here computed_on register_here operator_here operator_of call_at
-    test_at goto_at note_here choice_here plain_reason choice_at note_at object_test dest_at register_at object_goto object_operator operator_of_byte
+    test_at goto_at target_here numbered_row note_here choice_here plain_reason choice_at note_at object_test dest_at register_at object_goto object_operator operator_of_byte
 sum_read_back = refl

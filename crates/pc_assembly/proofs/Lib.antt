@@ -1,3 +1,5 @@
+mod TableLaws
+mod NameSteps
 mod CutLines
 mod Initial
 mod ReadNumbers
@@ -7,6 +9,7 @@ mod ReadHeadings
 mod ReadData
 mod ReadNotes
 mod ReadLimits
+mod ReadNames
 mod ReadListing
 mod ReadText
 mod ReadBytes

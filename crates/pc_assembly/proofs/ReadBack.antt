@@ -16,7 +16,8 @@ use Rattle.pc_assembly.specs.declared.line.Line.{Line}
 use Rattle.pc_assembly.specs.declared.line.Stage.TheVariants as stage
 use Rattle.pc_assembly.specs.declared.line.Content.{Content}
 use Rattle.pc_assembly.specs.declared.line.Totals.{Totals}
-use Rattle.pc_assembly.specs.Assembled.{content_rows, content_notes, front_bytes, rows_bytes, notes_bytes, initial_from}
+use Rattle.pc_assembly.specs.Assembled.{content_rows, content_notes, header_bytes, rows_bytes, notes_bytes, initial_from, data_offset}
+use Rattle.pc_assembly.specs.Names.{Names, names_of}
 use Rattle.pc_assembly.specs.Listing.{no_lines, first_line, ended, body_read}
 use Rattle.pc_assembly.specs.Object.{loaded, assembled, listing_reading}
 use Rattle.pc_assembly.specs.Laws.{ReadAs}
@@ -39,15 +40,15 @@ ended_is number rows [] = refl
 ended_is number rows (note ∷ notes) = rw (one-add (length notes)) refl
 
 -- what is read of lines that are read as rows and notes
-abbrev BodyKept : List ℕ → List (List ℕ) → List Content → ℕ → List Note → Type 0
-BodyKept lengths lines contents rows notes =
-    (kept : List Line) × (told_of kept ≡ contents) × (body_read lengths 2 lines ≡ Ok (kept, totals_of rows notes))
+abbrev BodyKept : Names → List ℕ → List (List ℕ) → List Content → ℕ → List Note → Type 0
+BodyKept names lengths lines contents rows notes =
+    (kept : List Line) × (told_of kept ≡ contents) × (body_read names lengths 2 lines ≡ Ok (kept, totals_of rows notes))
 
-body_kept : (lengths : List ℕ) (lines : List (List ℕ)) (contents : List Content) (rows : ℕ) (notes : List Note)
-    → ReadAs lengths (stage.Data 0 0) lines contents (behind_notes rows notes) → BodyKept lengths lines contents rows notes
+body_kept : (names : Names) (lengths : List ℕ) (lines : List (List ℕ)) (contents : List Content) (rows : ℕ) (notes : List Note)
+    → ReadAs names lengths (stage.Data 0 0) lines contents (behind_notes rows notes) → BodyKept names lengths lines contents rows notes
 unfolding body_read
-body_kept lengths lines contents rows notes h =
-    let kept = lines_kept lengths no_lines 2 lines contents (behind_notes rows notes) h in
+body_kept names lengths lines contents rows notes h =
+    let kept = lines_kept names lengths no_lines 2 lines contents (behind_notes rows notes) h in
     (kept.0, kept.1, rw (kept.2, ended_is (2 + length lines) rows notes) refl)
 
 -- there are at most as many rows as bytes
@@ -66,10 +67,10 @@ few_rows object h =
 abbrev body_lines : CodeWithNotes → List (List ℕ)
 body_lines object = all_data_lines 0 object.code.initial ++ (rows_lines None object.code 0 object.code.rows ++ map note_words object.notes)
 
-body_reads : (object : CodeWithNotes) → IsObject object → HasWords object
-    → ReadAs object.code.arrays (stage.Data 0 0) (body_lines object) (told_body object.code.initial object.code.rows object.notes)
+body_reads : (names : Names) (object : CodeWithNotes) → IsObject object → HasWords object
+    → ReadAs names object.code.arrays (stage.Data 0 0) (body_lines object) (told_body object.code.initial object.code.rows object.notes)
     (behind_notes (length object.code.rows) object.notes)
-body_reads object is words =
+body_reads names object is words =
     let code = object.code in
     let few_arrays = is.code.arrays.count in
     let few = few_rows object is in
@@ -77,23 +78,23 @@ body_reads object is words =
     let printed = rows_print_back code.limits code.registers (length code.arrays) (length code.rows) code.rows is.code.limits
     (omega (arith, registers))
     (omega (arith, few_arrays)) (omega (arith, few)) is.code.rows words.rows in
-    let first = data_read [] code.arrays 0 0 code.initial (inr (refl, refl))
+    let first = data_read names [] code.arrays 0 0 code.initial (inr (refl, refl))
     (omega (arith, few_arrays)) is.code.initial is.code.arrays.each words.initial in
-    let rows = rows_read code.arrays code first.0 first.1 code.rows printed is.code.entry few in
-    let notes = notes_read code.arrays (length code.rows) object.notes is.choices words.notes is.few_notes in
+    let rows = rows_read names code.arrays code first.0 first.1 code.rows printed is.code.entry few in
+    let notes = notes_read names code.arrays (length code.rows) object.notes is.choices words.notes is.few_notes in
     let behind = behind_notes (length code.rows) object.notes in
-    let later = read_both code.arrays (stage.Data first.0 first.1) (stage.Row (length code.rows)) behind
+    let later = read_both names code.arrays (stage.Data first.0 first.1) (stage.Row (length code.rows)) behind
     (rows_lines None code 0 code.rows) (map note_words object.notes) (told_rows code.rows) (told_notes object.notes) rows notes in
-    read_both code.arrays (stage.Data 0 0) (stage.Data first.0 first.1) behind (all_data_lines 0 code.initial)
+    read_both names code.arrays (stage.Data 0 0) (stage.Data first.0 first.1) behind (all_data_lines 0 code.initial)
     (rows_lines None code 0 code.rows ++ map note_words object.notes) (told_data 0 code.initial)
     (told_rows code.rows ++ told_notes object.notes) first.2 later
 
 -- ---- the object
 
 -- the text of an object that loads
-loaded_is : (number front : ℕ) (lines : List Line) (bytes : List ℕ) (object : CodeWithNotes) → IsObject object → HasWords object
-    → bytes ≡ object_text object → loaded number front lines bytes ≡ Ok object
-loaded_is number front lines bytes object is words same =
+loaded_is : (number data_at rows_at : ℕ) (lines : List Line) (bytes : List ℕ) (object : CodeWithNotes) → IsObject object → HasWords object
+    → bytes ≡ object_text object → loaded number data_at rows_at lines bytes ≡ Ok object
+loaded_is number data_at rows_at lines bytes object is words same =
     let few = is.few_bytes in
     let short : nat_lt most_object (length (object_text object)) ≡ false = grind (arith, nat_tests, few) in
     rw (same, short, reads_text object is words) refl
@@ -102,7 +103,7 @@ loaded_is number front lines bytes object is words same =
 assembled_is : (object : CodeWithNotes) (kept : List Line) → IsObject object → HasWords object
     → told_of kept ≡ told_body object.code.initial object.code.rows object.notes
     → assembled 1 (header_of object.code) kept (totals_of (length object.code.rows) object.notes) ≡ Ok object
-unfolding assembled front_bytes
+unfolding assembled header_bytes
 assembled_is object kept is words told =
     let code = object.code in
     let lists = as_many_lists code.arrays code.initial is.code.initial in
@@ -112,10 +113,10 @@ assembled_is object kept is words told =
     flat_told content_rows kept ∙ ap (λ contents. flat_map content_rows contents) told ∙ body_rows code.initial code.rows object.notes in
     let notes : flat_map (λ line. content_notes line.content) kept ≡ flat_map note_text object.notes =
     flat_told content_notes kept ∙ ap (λ contents. flat_map content_notes contents) told ∙ body_notes code.initial code.rows object.notes in
-    let whole : front_bytes (header_of code) kept (length code.rows) ++ (rows_bytes kept ++ notes_bytes kept (length object.notes))
+    let whole : header_bytes (header_of code) kept (length code.rows) ++ (rows_bytes kept ++ notes_bytes kept (length object.notes))
     ≡ object_text object =
     rw (initial, rows, notes) refl in
-    loaded_is 1 (length (front_bytes (header_of code) kept (length code.rows))) kept _ object is words whole
+    loaded_is 1 (data_offset (length code.arrays)) (length (header_bytes (header_of code) kept (length code.rows))) kept _ object is words whole
 
 -- ---- the listing
 
@@ -124,8 +125,9 @@ unfolding listing_reading first_line
 listing_read object is words =
     let code = object.code in
     let arrays = is.code.arrays in
-    let body = body_kept code.arrays (body_lines object) (told_body code.initial code.rows object.notes) (length code.rows) object.notes
-    (body_reads object is words) in
+    let names = names_of (body_lines object) in
+    let body = body_kept names code.arrays (body_lines object) (told_body code.initial code.rows object.notes) (length code.rows) object.notes
+    (body_reads names object is words) in
     rw (
       listing_cut object,
       limits_line_starts code,

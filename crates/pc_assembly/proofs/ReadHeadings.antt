@@ -1,5 +1,5 @@
 -- The first lines of rows, as they are printed, are read back.
-use Rattle.std.proofs.Common.{ℕ, ◌+◌, ◌^◌, ◌<◌, ◌≤◌, ◌≡◌, ◌==◌, true, false, arith, nat_eq}
+use Rattle.std.proofs.Common.{ℕ, ◌+◌, ◌^◌, ◌<◌, ◌≤◌, ◌≡◌, ◌==◌, true, false, arith, nat_eq, nat_lt}
 use Rattle.std.proofs.Common.{List, [], ◌∷◌, ◌++◌, length, refl, append_assoc, codes, decimal, None, Ok}
 use Rattle.std.specs.List.{prefix_len, count_by}
 use Rattle.std.proofs.lemmas.Bool.Decides.{nat_tests}
@@ -15,9 +15,10 @@ use Rattle.pc_assembly.specs.declared.line.Side.TheVariants as side
 use Rattle.pc_assembly.specs.declared.line.Stage.TheVariants as stage
 use Rattle.pc_assembly.specs.declared.line.Content.TheVariants as content
 use Rattle.pc_assembly.specs.Bytes.{is_in, after_run}
-use Rattle.pc_assembly.specs.Words.{unblank, is_end, number_at, number_is, end_at}
+use Rattle.pc_assembly.specs.Words.{is_end, number_at, number_is, end_at}
+use Rattle.pc_assembly.specs.Names.{Names, most_row}
 use Rattle.pc_assembly.specs.Limits.{memory_at}
-use Rattle.pc_assembly.specs.Lines.{share_at, shares_at, counts_here, most_row, row_line, line_here}
+use Rattle.pc_assembly.specs.Lines.{used_at, usage_at, usage_here, numbered_at, row_here, row_line, line_here}
 use Rattle.pc_assembly.proofs.ReadNumbers.{Begins, decimal_begins, no_blanks, number_read}
 use Rattle.pc_assembly.proofs.ReadParts.{NoDigit}
 
@@ -54,54 +55,54 @@ due_read most n expected rest small fits ends = rw (number_read most n expected 
 
 -- ---- what a row has of what it may have
 
--- a count of a row
-IsCount : ℕ → Type 0
-IsCount n = n < 2 ^ 32
+-- a number of four bytes
+IsNumber : ℕ → Type 0
+IsNumber n = n < 2 ^ 32
 
-share_read : (some all : ℕ) (rest : List ℕ) → IsCount some → IsCount all → NoDigit rest
-    → share_at (decimal some ++ (codes " of " ++ (decimal all ++ rest))) ≡ Ok rest
-unfolding share_at IsCount
-share_read some all rest p q ends =
+used_read : (some all : ℕ) (rest : List ℕ) → IsNumber some → IsNumber all → NoDigit rest
+    → used_at (decimal some ++ (codes " of " ++ (decimal all ++ rest))) ≡ Ok rest
+unfolding used_at IsNumber
+used_read some all rest p q ends =
     rw (
       number_there 4294967295 some expect.Number (codes " of " ++ (decimal all ++ rest)) (omega (arith, p)) (omega (arith, p)) refl,
       number_behind 4294967295 all expect.Number rest (omega (arith, q)) (omega (arith, q)) ends,
     ) refl
 
 -- the same after a blank
-share_behind : (some all : ℕ) (rest : List ℕ) → IsCount some → IsCount all → NoDigit rest
-    → share_at (codes " " ++ (decimal some ++ (codes " of " ++ (decimal all ++ rest)))) ≡ Ok rest
-unfolding share_at IsCount
-share_behind some all rest p q ends =
+used_behind : (some all : ℕ) (rest : List ℕ) → IsNumber some → IsNumber all → NoDigit rest
+    → used_at (codes " " ++ (decimal some ++ (codes " of " ++ (decimal all ++ rest)))) ≡ Ok rest
+unfolding used_at IsNumber
+used_behind some all rest p q ends =
     rw (
       number_behind 4294967295 some expect.Number (codes " of " ++ (decimal all ++ rest)) (omega (arith, p)) (omega (arith, p)) refl,
       number_behind 4294967295 all expect.Number rest (omega (arith, q)) (omega (arith, q)) ends,
     ) refl
 
 -- six numbers in words
-counted : (a b c d e f : ℕ) → List ℕ → List ℕ
-counted a b c d e f rest =
+usage_words : (a b c d e f : ℕ) → List ℕ → List ℕ
+usage_words a b c d e f rest =
     decimal a ++ (codes " of " ++ (decimal b ++ (codes " items, " ++ (decimal c ++ (codes " of " ++ (decimal d ++ (codes " tests, "
     ++ (decimal e ++ (codes " of " ++ (decimal f ++ (codes " loads and stores" ++ rest)))))))))))
 
 -- they begin with a number
-counted_unblank : (a b c d e f : ℕ) (rest : List ℕ) → IsCount a → prefix_len (is_in class.Blank) (counted a b c d e f rest) ≡ 0
-unfolding counted IsCount
-counted_unblank a b c d e f rest h = no_blanks (decimal a) _ (decimal_begins a (omega (arith, h)))
+usage_unblank : (a b c d e f : ℕ) (rest : List ℕ) → IsNumber a → prefix_len (is_in class.Blank) (usage_words a b c d e f rest) ≡ 0
+unfolding usage_words IsNumber
+usage_unblank a b c d e f rest h = no_blanks (decimal a) _ (decimal_begins a (omega (arith, h)))
 
-counted_goes_on : (a b c d e f : ℕ) (rest : List ℕ) → IsCount a → is_end (counted a b c d e f rest) ≡ false
-unfolding counted IsCount
-counted_goes_on a b c d e f rest h = begins_goes_on (decimal a) _ (decimal_begins a (omega (arith, h)))
+usage_goes_on : (a b c d e f : ℕ) (rest : List ℕ) → IsNumber a → is_end (usage_words a b c d e f rest) ≡ false
+unfolding usage_words IsNumber
+usage_goes_on a b c d e f rest h = begins_goes_on (decimal a) _ (decimal_begins a (omega (arith, h)))
 
-shares_read : (a b c d e f : ℕ) (rest : List ℕ) → IsCount a → IsCount b → IsCount c → IsCount d → IsCount e → IsCount f
-    → prefix_len (is_in class.Letter) rest ≡ 0 → shares_at (counted a b c d e f rest) ≡ Ok rest
-unfolding shares_at memory_at counted
-shares_read a b c d e f rest p q r s t u ends =
+usage_read : (a b c d e f : ℕ) (rest : List ℕ) → IsNumber a → IsNumber b → IsNumber c → IsNumber d → IsNumber e → IsNumber f
+    → prefix_len (is_in class.Letter) rest ≡ 0 → usage_at (usage_words a b c d e f rest) ≡ Ok rest
+unfolding usage_at memory_at usage_words
+usage_read a b c d e f rest p q r s t u ends =
     let mem = decimal e ++ (codes " of " ++ (decimal f ++ (codes " loads and stores" ++ rest))) in
     let tests = decimal c ++ (codes " of " ++ (decimal d ++ (codes " tests, " ++ mem))) in
     rw (
-      share_read a b (codes " items, " ++ tests) p q refl,
-      share_behind c d (codes " tests, " ++ mem) r s refl,
-      share_behind e f (codes " loads and stores" ++ rest) t u refl,
+      used_read a b (codes " items, " ++ tests) p q refl,
+      used_behind c d (codes " tests, " ++ mem) r s refl,
+      used_behind e f (codes " loads and stores" ++ rest) t u refl,
       ends,
     ) refl
 
@@ -109,22 +110,24 @@ shares_read a b c d e f rest p q r s t u ends =
 
 -- its number, and what it has of what it may have, before what follows
 row_words : (number a b c d e f : ℕ) → List ℕ → List ℕ
-row_words number a b c d e f rest = codes "row " ++ (decimal number ++ (codes ": " ++ counted a b c d e f rest))
+row_words number a b c d e f rest = codes "row " ++ (decimal number ++ (codes ": " ++ usage_words a b c d e f rest))
 
-row_line_is : (number a b c d e f : ℕ) (rest : List ℕ) → number ≤ most_row → IsCount a → IsCount b → IsCount c → IsCount d → IsCount e
-    → IsCount f
+row_line_is : (names : Names) (number a b c d e f : ℕ) (rest : List ℕ) → number ≤ most_row → IsNumber a → IsNumber b → IsNumber c → IsNumber d → IsNumber e
+    → IsNumber f
     → prefix_len (is_in class.Letter) rest ≡ 0 → end_at rest ≡ Ok tt
-    → row_line number (row_words number a b c d e f rest) ≡ Ok (stage.Part side.Neither 0 (number + 1), content.Row)
-unfolding row_line row_words counts_here IsCount
-row_line_is number a b c d e f rest small p q r s t u letters ends =
+    → row_line names number (row_words number a b c d e f rest) ≡ Ok (stage.Part side.Neither 0 (number + 1), content.Row)
+unfolding row_line row_here numbered_at row_words usage_here IsNumber
+row_line_is names number a b c d e f rest small p q r s t u letters ends =
     let fits : number < 2 ^ 64 = omega (arith, small) in
-    let behind = codes ": " ++ counted a b c d e f rest in
+    let behind = codes ": " ++ usage_words a b c d e f rest in
+    let within : nat_lt most_row number ≡ false = grind (arith, nat_tests, small) in
     rw (
+      within,
       no_blanks (decimal number) behind (decimal_begins number fits),
       due_read most_row number expect.RowNumber behind small fits refl,
-      counted_unblank a b c d e f rest p,
-      counted_goes_on a b c d e f rest p,
-      shares_read a b c d e f rest p q r s t u letters,
+      usage_unblank a b c d e f rest p,
+      usage_goes_on a b c d e f rest p,
+      usage_read a b c d e f rest p q r s t u letters,
       ends,
     ) refl
 
@@ -133,11 +136,11 @@ heading_words : (limits : Limits) (number : ℕ) (row : CodeRow) (rest : List �
     → count_words limits number row ++ rest
     ≡ row_words number (length (items_of row)) limits.ops (length (tests_of row)) limits.tests
     (count_by is_memory (items_of row)) limits.mem rest
-unfolding count_words row_words counted
+unfolding count_words row_words usage_words
 heading_words limits number row rest = simp append_assoc refl
 
 -- a limit of a row, and what a row has, have their text
-pub record HasCounted (limits : Limits) (row : CodeRow) : Type 0 where
+pub record UsageFits (limits : Limits) (row : CodeRow) : Type 0 where
   pub ops : limits.ops < 2 ^ 32
   pub tests : limits.tests < 2 ^ 32
   pub mem : limits.mem < 2 ^ 32
@@ -151,38 +154,38 @@ leading_ends : (leading : List ℕ) → (prefix_len (is_in class.Letter) (leadin
 leading_ends [] = (refl, refl)
 leading_ends (number ∷ rest) = (refl, refl)
 
-pub heading_read : (limits : Limits) (number : ℕ) (row : CodeRow) (leading : List ℕ) → number ≤ most_row → HasCounted limits row
-    → row_line number (heading None limits number row leading) ≡ Ok (stage.Part side.Neither 0 (number + 1), content.Row)
-unfolding IsCount
-heading_read limits number row leading small h =
+pub heading_read : (names : Names) (limits : Limits) (number : ℕ) (row : CodeRow) (leading : List ℕ) → number ≤ most_row → UsageFits limits row
+    → row_line names number (heading None limits number row leading) ≡ Ok (stage.Part side.Neither 0 (number + 1), content.Row)
+unfolding IsNumber
+heading_read names limits number row leading small h =
     let rest = leading_words leading ++ [] in
     rw (heading_words limits number row rest)
-    (row_line_is number (length (items_of row)) limits.ops (length (tests_of row)) limits.tests
+    (row_line_is names number (length (items_of row)) limits.ops (length (tests_of row)) limits.tests
     (count_by is_memory (items_of row)) limits.mem rest
     small h.few_ops h.ops h.few_tests h.tests h.few_mem h.mem (leading_ends leading).0 (leading_ends leading).1)
 
 -- it begins with the word `row`
 heading_starts : (limits : Limits) (number : ℕ) (row : CodeRow) (leading : List ℕ)
-    → (is_end (unblank (heading None limits number row leading)) ≡ false)
-    × (after_run class.Front (heading None limits number row leading) ≡ heading None limits number row leading)
+    → (is_end (after_run class.Indent (heading None limits number row leading)) ≡ false)
+    × (after_run class.Indent (heading None limits number row leading) ≡ heading None limits number row leading)
 unfolding count_words
 heading_starts limits number row leading = (refl, refl)
 
 -- behind a row
-pub later_heading_read : (lengths : List ℕ) (limits : Limits) (number : ℕ) (row : CodeRow) (leading : List ℕ) → number ≤ most_row
-    → HasCounted limits row
-    → (is_end (unblank (heading None limits number row leading)) ≡ false)
-    × (line_here lengths (stage.Row number) (after_run class.Front (heading None limits number row leading))
+pub later_heading_read : (names : Names) (lengths : List ℕ) (limits : Limits) (number : ℕ) (row : CodeRow) (leading : List ℕ) → number ≤ most_row
+    → UsageFits limits row
+    → (is_end (after_run class.Indent (heading None limits number row leading)) ≡ false)
+    × (line_here names lengths (stage.Row number) (after_run class.Indent (heading None limits number row leading))
     ≡ Ok (stage.Part side.Neither 0 (number + 1), content.Row))
 unfolding line_here count_words
-later_heading_read lengths limits number row leading small h =
-    ((heading_starts limits number row leading).0, heading_read limits number row leading small h)
+later_heading_read names lengths limits number row leading small h =
+    ((heading_starts limits number row leading).0, heading_read names limits number row leading small h)
 
 -- and in front of the rows
-pub first_heading_read : (lengths : List ℕ) (array element : ℕ) (limits : Limits) (row : CodeRow) (leading : List ℕ) → HasCounted limits row
-    → (is_end (unblank (heading None limits 0 row leading)) ≡ false)
-    × (line_here lengths (stage.Data array element) (after_run class.Front (heading None limits 0 row leading))
+pub first_heading_read : (names : Names) (lengths : List ℕ) (array element : ℕ) (limits : Limits) (row : CodeRow) (leading : List ℕ) → UsageFits limits row
+    → (is_end (after_run class.Indent (heading None limits 0 row leading)) ≡ false)
+    × (line_here names lengths (stage.Data array element) (after_run class.Indent (heading None limits 0 row leading))
     ≡ Ok (stage.Part side.Neither 0 1, content.Row))
 unfolding line_here count_words
-first_heading_read lengths array element limits row leading h =
-    ((heading_starts limits 0 row leading).0, heading_read limits 0 row leading (omega arith) h)
+first_heading_read names lengths array element limits row leading h =
+    ((heading_starts limits 0 row leading).0, heading_read names limits 0 row leading (omega arith) h)

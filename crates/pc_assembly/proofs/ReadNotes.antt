@@ -1,5 +1,5 @@
 -- Notes, as they are printed, are read back.
-use Rattle.std.proofs.Common.{ℕ, zero, suc, ◌+◌, ◌<◌, ◌≤◌, ◌≡◌, true, arith, nat_lt}
+use Rattle.std.proofs.Common.{ℕ, zero, suc, ◌+◌, ◌^◌, ◌<◌, ◌≤◌, ◌≡◌, true, arith, nat_lt}
 use Rattle.std.proofs.Common.{List, [], ◌∷◌, ◌++◌, map, length, refl, subst, codes, decimal, Ok}
 use Rattle.std.specs.List.{prefix_len, AllByRecursion}
 use Rattle.std.proofs.lemmas.Bool.Decides.{nat_tests}
@@ -13,9 +13,11 @@ use Rattle.pc_assembly.specs.declared.line.Stage.{Stage}
 use Rattle.pc_assembly.specs.declared.line.Stage.TheVariants as stage
 use Rattle.pc_assembly.specs.declared.line.Content.TheVariants as content
 use Rattle.pc_assembly.specs.Bytes.{is_in}
+use Rattle.pc_assembly.specs.Names.{Names, is_named}
 use Rattle.pc_assembly.specs.Notes.{pipelined_reason, packed_reason, plain_reason, choice_here, note_here}
-use Rattle.pc_assembly.specs.Lines.{note_line, line_here}
+use Rattle.pc_assembly.specs.Lines.{note_line, is_note, line_here}
 use Rattle.pc_assembly.specs.Laws.{ReadAs}
+use Rattle.pc_assembly.proofs.ReadNumbers.{decimal_begins, no_blanks, no_colon}
 use Rattle.pc_assembly.proofs.ReadParts.{last_number}
 use Rattle.pc_assembly.proofs.ReadHeadings.{number_behind}
 
@@ -73,22 +75,22 @@ note_line_read rows notes note known fits room =
 -- ---- several
 
 -- after notes
-later_notes : (lengths : List ℕ) (rows before : ℕ) (notes : List Note) → AllByRecursion IsChoice notes → AllByRecursion NoteFits notes
+later_notes : (names : Names) (lengths : List ℕ) (rows before : ℕ) (notes : List Note) → AllByRecursion IsChoice notes → AllByRecursion NoteFits notes
     → before + length notes ≤ 65535
-    → ReadAs lengths (stage.Note rows before) (map note_words notes) (map (λ note. content.Note note) notes)
+    → ReadAs names lengths (stage.Note rows before) (map note_words notes) (map (λ note. content.Note note) notes)
     (stage.Note rows (before + length notes))
 unfolding line_here
-later_notes lengths rows before [] known fit room = let e : before + 0 ≡ before = omega arith in rw e refl
-later_notes lengths rows before (note ∷ notes) known fit room =
+later_notes names lengths rows before [] known fit room = let e : before + 0 ≡ before = omega arith in rw e refl
+later_notes names lengths rows before (note ∷ notes) known fit room =
     let few : before < 65535 = omega (arith, room) in
     let more_room : suc before + length notes ≤ 65535 = omega (arith, room) in
-    let more = later_notes lengths rows (suc before) notes known.1 fit.1 more_room in
+    let more = later_notes names lengths rows (suc before) notes known.1 fit.1 more_room in
     let one : before + 1 ≡ suc before = omega arith in
     let ended : suc before + length notes ≡ before + suc (length notes) = omega arith in (
       stage.Note rows (before + 1),
       refl,
       note_line_read rows before note known.0 fit.0 few,
-      rw one (subst (λ n. ReadAs lengths (stage.Note rows (suc before)) (map note_words notes) (map (λ note. content.Note note) notes)
+      rw one (subst (λ n. ReadAs names lengths (stage.Note rows (suc before)) (map note_words notes) (map (λ note. content.Note note) notes)
           (stage.Note rows n)) ended more),
     )
 
@@ -97,16 +99,25 @@ abbrev pub behind_notes : ℕ → List Note → Stage
 behind_notes rows [] = stage.Row rows
 behind_notes rows (note ∷ notes) = stage.Note rows (1 + length notes)
 
+-- a note is no row with a name
+note_is_next : (note : Note) → NoteFits note → is_note (note_words note) ≡ true
+unfolding is_named
+note_is_next note fits =
+    let line = fits.line in
+    let large : note.line < 2 ^ 64 = omega (arith, line) in
+    let begins = decimal_begins note.line large in
+    rw (no_blanks (decimal note.line) _ begins, no_colon (decimal note.line) _ begins) refl
+
 -- behind the rows
-pub notes_read : (lengths : List ℕ) (rows : ℕ) (notes : List Note) → AllByRecursion IsChoice notes → AllByRecursion NoteFits notes
+pub notes_read : (names : Names) (lengths : List ℕ) (rows : ℕ) (notes : List Note) → AllByRecursion IsChoice notes → AllByRecursion NoteFits notes
     → length notes ≤ 65535
-    → ReadAs lengths (stage.Row rows) (map note_words notes) (map (λ note. content.Note note) notes) (behind_notes rows notes)
+    → ReadAs names lengths (stage.Row rows) (map note_words notes) (map (λ note. content.Note note) notes) (behind_notes rows notes)
 unfolding line_here
-notes_read lengths rows [] known fit room = refl
-notes_read lengths rows (note ∷ notes) known fit room = (
+notes_read names lengths rows [] known fit room = refl
+notes_read names lengths rows (note ∷ notes) known fit room = (
   stage.Note rows 1,
   refl,
-  note_line_read rows 0 note known.0 fit.0 (omega arith),
-  later_notes lengths rows 1 notes known.1 fit.1
+  rw (note_is_next note fit.0) (note_line_read rows 0 note known.0 fit.0 (omega arith)),
+  later_notes names lengths rows 1 notes known.1 fit.1
       (omega (arith, room)),
 )

@@ -7,9 +7,10 @@ use Rattle.std.specs.List.{prefix_len}
 use Rattle.std.proofs.lemmas.Bool.Decides.{nat_tests}
 use Rattle.std.proofs.lemmas.Fmt.{decimal_by_steps}
 use Rattle.pc_assembly.specs.declared.bytes.Class.TheVariants as class
+use Rattle.pc_assembly.specs.declared.spelling.Mark.TheVariants as mark
 use Rattle.pc_assembly.specs.declared.error.Expected.{Expected}
 use Rattle.pc_assembly.specs.Bytes.{is_in, is_blank, is_letter, is_digit}
-use Rattle.pc_assembly.specs.Words.{digits_value, numeral_value, number_here}
+use Rattle.pc_assembly.specs.Words.{is_mark, digits_value, numeral_value, number_here}
 
 -- ---- how a number begins
 
@@ -46,6 +47,11 @@ no_blanks (byte ∷ bytes) rest h = rw (digit_no_blank byte h.0 h.1) refl
 pub no_letters : (bytes rest : List ℕ) → Begins bytes → prefix_len (is_in class.Letter) (bytes ++ rest) ≡ 0
 no_letters [] rest h = absurd h
 no_letters (byte ∷ bytes) rest h = rw (digit_no_letter byte h.0 h.1) refl
+
+-- nor a colon
+pub no_colon : (bytes rest : List ℕ) → Begins bytes → is_mark mark.Colon (bytes ++ rest) ≡ false
+no_colon [] rest h = absurd h
+no_colon (byte ∷ bytes) rest h = grind (arith, nat_tests, h.0, h.1)
 
 -- ---- its digits
 

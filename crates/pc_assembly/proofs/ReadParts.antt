@@ -23,11 +23,12 @@ use Rattle.pc_assembly.specs.declared.part.Part.{Part}
 use Rattle.pc_assembly.specs.declared.part.Part.TheVariants as part
 use Rattle.pc_assembly.specs.Bytes.{is_in}
 use Rattle.pc_assembly.specs.Words.{is_end, number_at}
+use Rattle.pc_assembly.specs.Names.{Names}
 use Rattle.pc_assembly.specs.Operands.{register_here, array_here, negative_here, positive_here, literal_here, operand_here}
 use Rattle.pc_assembly.specs.Operands.{operand_at, operator_of, operator_here}
 use Rattle.pc_assembly.specs.Items.{element_here, call_at, computed_on, computed_here, load_here, source_here, assignment_here}
 use Rattle.pc_assembly.specs.Items.{store_here, print_at}
-use Rattle.pc_assembly.specs.Parts.{most_number, test_at, goto_at, trap_kind_here, trap_at, leaf_here, item_part, part_here}
+use Rattle.pc_assembly.specs.Parts.{most_number, test_at, numbered_row, target_here, goto_at, trap_kind_here, trap_at, leaf_here, item_part, part_here}
 use Rattle.pc_assembly.specs.Laws.{OperandHasText, ItemHasText, LeafHasText, PartHasText, part_words}
 use Rattle.pc_assembly.proofs.ReadNumbers.{Begins, decimal_begins, no_blanks, no_letters, number_read}
 
@@ -221,10 +222,10 @@ assigned : (dest : ℕ) (source : List ℕ) → dest < 256 → prefix_len (is_in
 unfolding assignment_here
 assigned dest source small h = rw (register_read dest (codes " = " ++ source) small refl, h) refl
 
-part_assigned : (dest : ℕ) (source : List ℕ) → dest < 256 → prefix_len (is_in class.Blank) source ≡ 0
-    → part_here (codes "r" ++ (decimal dest ++ (codes " = " ++ source))) ≡ item_part (source_here dest source)
+part_assigned : (names : Names) (dest : ℕ) (source : List ℕ) → dest < 256 → prefix_len (is_in class.Blank) source ≡ 0
+    → part_here names (codes "r" ++ (decimal dest ++ (codes " = " ++ source))) ≡ item_part (source_here dest source)
 unfolding part_here
-part_assigned dest source small h =
+part_assigned names dest source small h =
     let fits : dest < 2 ^ 64 = omega (arith, small) in
     let is = assigned dest source small h in
     rw (no_letters (decimal dest) (codes " = " ++ source) (decimal_begins dest fits), is) refl
@@ -237,10 +238,10 @@ unfolding store_here
 stored array index value small p q =
     rw (element_read array index (codes " = " ++ operand_words value) small p, last_operand value q) refl
 
-part_stored : (array : ℕ) (rest : List ℕ) → array < 256
-    → part_here (codes "a" ++ (decimal array ++ rest)) ≡ item_part (store_here (codes "a" ++ (decimal array ++ rest)))
+part_stored : (names : Names) (array : ℕ) (rest : List ℕ) → array < 256
+    → part_here names (codes "a" ++ (decimal array ++ rest)) ≡ item_part (store_here (codes "a" ++ (decimal array ++ rest)))
 unfolding part_here
-part_stored array rest small =
+part_stored names array rest small =
     let fits : array < 2 ^ 64 = omega (arith, small) in
     rw (no_letters (decimal array) rest (decimal_begins array fits)) refl
 
@@ -257,39 +258,39 @@ loaded dest array index small h =
     ) refl
 
 -- an item that is printed
-pub item_read : (item : Item) → ItemHasText item → part_here (item_words operator_words item) ≡ Ok (part.Item item, [])
+pub item_read : (names : Names) (item : Item) → ItemHasText item → part_here names (item_words operator_words item) ≡ Ok (part.Item item, [])
 unfolding part_here print_at source_here call_at
-item_read (Bin op dest left right) h =
+item_read names (Bin op dest left right) h =
     let p : OperandHasText left = (h.0.1, h.1.0) in
     let q : OperandHasText right = (h.0.2, h.1.1) in
     let behind = codes " " ++ (operator_words op ++ (codes " " ++ operand_words right)) in
-    part_assigned dest (operand_words left ++ behind) h.0.0 (operand_unblank left behind p)
+    part_assigned names dest (operand_words left ++ behind) h.0.0 (operand_unblank left behind p)
     ∙ ap item_part (source_computed dest left behind p ∙ computed_binary op dest left right p q)
-item_read (Copy dest from) h =
+item_read names (Copy dest from) h =
     let p : OperandHasText from = (h.0.1, h.1) in
-    subst (λ bytes. part_here (codes "r" ++ (decimal dest ++ (codes " = " ++ bytes))) ≡ Ok (part.Item (Copy dest from), []))
+    subst (λ bytes. part_here names (codes "r" ++ (decimal dest ++ (codes " = " ++ bytes))) ≡ Ok (part.Item (Copy dest from), []))
     (append-nil (operand_words from))
-    (part_assigned dest (operand_words from ++ []) h.0.0 (operand_unblank from [] p)
+    (part_assigned names dest (operand_words from ++ []) h.0.0 (operand_unblank from [] p)
     ∙ ap item_part (source_computed dest from [] p ∙ computed_copy dest from p))
-item_read (Load dest array index) h =
+item_read names (Load dest array index) h =
     let p : OperandHasText index = (h.0.2, h.1) in
-    part_assigned dest (codes "a" ++ (decimal array ++ (codes "[" ++ (operand_words index ++ codes "]")))) h.0.0 refl
+    part_assigned names dest (codes "a" ++ (decimal array ++ (codes "[" ++ (operand_words index ++ codes "]")))) h.0.0 refl
     ∙ ap item_part (loaded dest array index h.0.1 p)
-item_read (Store array index value) h =
+item_read names (Store array index value) h =
     let p : OperandHasText index = (h.0.1, h.1.0) in
     let q : OperandHasText value = (h.0.2, h.1.1) in
-    part_stored array (codes "[" ++ (operand_words index ++ (codes "] = " ++ operand_words value))) h.0.0
+    part_stored names array (codes "[" ++ (operand_words index ++ (codes "] = " ++ operand_words value))) h.0.0
     ∙ ap item_part (stored array index value h.0.0 p q)
-item_read (Print value) h = rw (operand_right_here value (codes ")") h refl) refl
-item_read (Read dest) h = part_assigned dest (codes "read()") h.0 refl
-item_read (More dest) h = part_assigned dest (codes "more()") h.0 refl
+item_read names (Print value) h = rw (operand_right_here value (codes ")") h refl) refl
+item_read names (Read dest) h = part_assigned names dest (codes "read()") h.0 refl
+item_read names (More dest) h = part_assigned names dest (codes "more()") h.0 refl
 
 -- ---- tests and leaves
 
 -- a test that is printed
-pub test_read : (on : Operand) → OperandHasText on → part_here (test_words on) ≡ Ok (part.Test on, [])
+pub test_read : (names : Names) (on : Operand) → OperandHasText on → part_here names (test_words on) ≡ Ok (part.Test on, [])
 unfolding part_here test_at
-test_read on h = rw (last_operand on h) refl
+test_read names on h = rw (last_operand on h) refl
 
 -- a number after a blank, at the end of a line
 pub last_number : (n : ℕ) (expected : Expected) → n < 2 ^ 32 → number_at most_number expected (codes " " ++ decimal n) ≡ Ok (n, [])
@@ -301,16 +302,16 @@ last_number n expected small =
     subst (λ bytes. number_at most_number expected (codes " " ++ bytes) ≡ Ok (n, [])) (append-nil (decimal n)) is
 
 -- a leaf that is printed
-pub leaf_read : (leaf : Leaf) → LeafHasText leaf → part_here (leaf_words leaf) ≡ Ok (part.Leaf leaf, [])
-unfolding part_here leaf_here goto_at trap_at trap_kind_here
-leaf_read (Goto row) h = rw (last_number row expect.Number h.0) refl
-leaf_read Stop h = refl
-leaf_read (Trap DivideByZero line) h = rw (last_number line expect.Number h.1) refl
-leaf_read (Trap OutOfBounds line) h = rw (last_number line expect.Number h.1) refl
-leaf_read (Trap EndOfInput line) h = rw (last_number line expect.Number h.1) refl
+pub leaf_read : (names : Names) (leaf : Leaf) → LeafHasText leaf → part_here names (leaf_words leaf) ≡ Ok (part.Leaf leaf, [])
+unfolding part_here leaf_here goto_at target_here numbered_row trap_at trap_kind_here
+leaf_read names (Goto row) h = rw (last_number row expect.Number h.0) refl
+leaf_read names Stop h = refl
+leaf_read names (Trap DivideByZero line) h = rw (last_number line expect.Number h.1) refl
+leaf_read names (Trap OutOfBounds line) h = rw (last_number line expect.Number h.1) refl
+leaf_read names (Trap EndOfInput line) h = rw (last_number line expect.Number h.1) refl
 
 -- each part
-pub part_read : (part : Part) → PartHasText part → part_here (part_words part) ≡ Ok (part, [])
-part_read (part.Item item) h = item_read item h
-part_read (part.Test on) h = test_read on h
-part_read (part.Leaf leaf) h = leaf_read leaf h
+pub part_read : (names : Names) (part : Part) → PartHasText part → part_here names (part_words part) ≡ Ok (part, [])
+part_read names (part.Item item) h = item_read names item h
+part_read names (part.Test on) h = test_read names on h
+part_read names (part.Leaf leaf) h = leaf_read names leaf h

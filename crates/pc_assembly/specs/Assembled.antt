@@ -1,5 +1,5 @@
 -- The bytes of the object that a listing stands for, and where in the listing each of them stands.
-use Rattle.std.specs.Prelude.{ℕ, zero, suc, ◌-◌, ℤ, if◌then◌else◌, nat_eq, nat_lt, List, [], ◌∷◌, ◌++◌, length}
+use Rattle.std.specs.Prelude.{ℕ, zero, suc, ◌+◌, ◌-◌, ◌*◌, ℤ, Bool, false, if◌then◌else◌, nat_eq, nat_lt, List, [], ◌∷◌, ◌++◌, length}
 use Rattle.std.specs.List.{flat_map}
 use Rattle.pc_machine.specs.declared.tree.Leaf.TheVariants.{Goto, Stop, Trap}
 use Rattle.pc_object.specs.ObjectText.{operand_text, item_text, leaf_text, note_text}
@@ -65,15 +65,15 @@ initial_from (suc count) before lines = initial_from count (before ++ array_word
 -- ---- the header
 
 -- the header of an object with so many rows, whose arrays begin with these words
-abbrev pub front_with : Header → List (List ℤ) → ℕ → List ℕ
-front_with header initial rows =
+abbrev pub header_with : Header → List (List ℤ) → ℕ → List ℕ
+header_with header initial rows =
     version_text (version_for header.registers initial)
     ++ (header.limits.ops ∷ header.limits.tests ∷ header.limits.mem ∷ length header.arrays
     ∷ (storage_text (version_for header.registers initial) header.registers header.arrays initial ++ u32_text rows))
 
 -- the same, with the words that the lines tell
-unfoldable pub front_bytes : Header → List Line → ℕ → List ℕ
-front_bytes header lines rows = front_with header (initial_from (length header.arrays) [] lines) rows
+unfoldable pub header_bytes : Header → List Line → ℕ → List ℕ
+header_bytes header lines rows = header_with header (initial_from (length header.arrays) [] lines) rows
 
 -- ---- places
 
@@ -97,8 +97,26 @@ place_among offset last [] = last
 place_among offset last (line ∷ lines) =
     if nat_lt offset (content_size line.content) then line.at else place_among (offset - content_size line.content) last lines
 
--- Where a byte stands, by its offset: one of the rows in its line, and any other in the first line, which has this number. So many
--- bytes stand before the rows.
-abbrev pub place_at : (number front offset : ℕ) → List Line → Place
-place_at number front offset lines =
-    if nat_lt offset front then line_start number else place_among (offset - front) (line_start number) lines
+-- whether a line tells the word of the data that has so many bytes before it: four for the number of words of each array up to its own
+abbrev pub is_word_at : ℕ → Content → Bool
+is_word_at before (content.Word array value) = nat_eq before (4 * (array + 1))
+is_word_at before content.Row = false
+is_word_at before (content.Part part) = false
+is_word_at before (content.Note note) = false
+
+-- where the word of the data stands that has so many bytes of the data before it, four for each word among them; what is no word of
+-- these lines stands at `last`
+unfoldable pub word_among : ℕ → Place → List Line → Place
+word_among before last [] = last
+word_among before last (line ∷ lines) = if is_word_at before line.content then line.at else word_among (before - 4) last lines
+
+-- where the data of so many arrays begin: behind the version, the limits, the numbers of arrays and registers, and the lengths
+abbrev pub data_offset : ℕ → ℕ
+data_offset arrays = 10 + 4 * arrays
+
+-- Where a byte stands, by its offset: one of the rows in its line, the first one of a word of the data in that word's, and any other
+-- in the first line, which has this number. The data and the rows begin at these offsets.
+abbrev pub place_at : (number data_at rows_at offset : ℕ) → List Line → Place
+place_at number data_at rows_at offset lines =
+    if nat_lt offset rows_at then word_among (offset - data_at) (line_start number) lines
+    else place_among (offset - rows_at) (line_start number) lines

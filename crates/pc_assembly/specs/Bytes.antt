@@ -3,7 +3,7 @@ use Rattle.std.specs.Prelude.{ℕ, Bool, not, ◌==◌, ◌&&◌, ◌||◌, nat_
 use Rattle.std.specs.List.{prefix_len}
 use Rattle.pc_word.specs.Line.{is_line_feed}
 use Rattle.pc_assembly.specs.declared.bytes.Class.{Class}
-use Rattle.pc_assembly.specs.declared.bytes.Class.TheVariants.{Blank, Front, Letter, Digit, Sign, InLine}
+use Rattle.pc_assembly.specs.declared.bytes.Class.TheVariants.{Blank, Indent, Letter, Digit, Name, Sign, InLine}
 
 -- space, tab, carriage return
 abbrev pub is_blank : ℕ → Bool
@@ -23,12 +23,13 @@ is_sign byte =
     byte == 43 || byte == 45 || byte == 42 || byte == 47 || byte == 37 || byte == 60
     || byte == 62 || byte == 38 || byte == 124 || byte == 94 || byte == 61 || byte == 33
 
--- whether a byte is of a class; a front is of blanks and bars, and what is in a line is no line feed
+-- whether a byte is of a class; an indent is of blanks and bars, a name of letters and digits, and what is in a line is no line feed
 abbrev pub is_in : Class → ℕ → Bool
 is_in Blank byte = is_blank byte
-is_in Front byte = is_blank byte || byte == 124
+is_in Indent byte = is_blank byte || byte == 124
 is_in Letter byte = is_letter byte
 is_in Digit byte = is_digit byte
+is_in Name byte = is_letter byte || is_digit byte
 is_in Sign byte = is_sign byte
 is_in InLine byte = not (is_line_feed byte)
 

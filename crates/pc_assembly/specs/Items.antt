@@ -15,8 +15,8 @@ use Rattle.pc_assembly.specs.Operands.{register_here, array_here, operand_here, 
 unfoldable pub element_here : List ℕ → Result (ℕ × Operand × List ℕ) Complaint
 element_here bytes = do
   array ← array_here bytes
-  front ← mark_at mark.OpenBracket array.1
-  index ← operand_at front
+  bracket ← mark_at mark.OpenBracket array.1
+  index ← operand_at bracket
   rest ← mark_at mark.CloseBracket index.1
   Ok (array.0, index.0, rest)
 
@@ -81,7 +81,7 @@ store_here bytes = do
 -- what stands after `print`
 unfoldable pub print_at : List ℕ → Result (Item × List ℕ) Complaint
 print_at bytes = do
-  front ← mark_at mark.OpenParenthesis bytes
-  value ← operand_at front
+  parenthesis ← mark_at mark.OpenParenthesis bytes
+  value ← operand_at parenthesis
   rest ← mark_at mark.CloseParenthesis value.1
   Ok (Print value.0, rest)

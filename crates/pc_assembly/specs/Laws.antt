@@ -1,5 +1,7 @@
 -- Laws of the reading: what is printed of an object is read back. Each is a clause of a function of laws.rt, which does nothing.
-use Rattle.std.specs.Prelude.{◌≡◌, ℕ, ◌^◌, ◌≤◌, false, List, [], ◌∷◌, ◌++◌, length, map, codes, None, Ok}
+use Rattle.std.specs.Prelude.{◌≡◌, ℕ, ◌^◌, ◌<◌, ◌≤◌, true, false, List, [], ◌∷◌, ◌++◌, length, map, codes, Some, None, Ok}
+use Rattle.std.specs.Fmt.{decimal}
+use Rattle.std.specs.List.{prefix_len, AllByRecursion}
 use Rattle.pc_word.specs.Row.{Then, Either, At_leaf, tests_of}
 use Rattle.pc_word.specs.declared.item.Item.{Item}
 use Rattle.pc_word.specs.declared.item.Operand.{Operand}
@@ -19,10 +21,11 @@ use Rattle.pc_assembly.specs.declared.line.Stage.{Stage}
 use Rattle.pc_assembly.specs.declared.line.Stage.TheVariants as stage
 use Rattle.pc_assembly.specs.declared.line.Content.{Content}
 use Rattle.pc_assembly.specs.declared.line.Content.TheVariants as content
-use Rattle.pc_assembly.specs.Bytes.{after_run}
-use Rattle.pc_assembly.specs.Words.{unblank, is_end}
-use Rattle.pc_assembly.specs.Parts.{part_here}
-use Rattle.pc_assembly.specs.Lines.{line_here}
+use Rattle.pc_assembly.specs.Bytes.{is_in, after_run}
+use Rattle.pc_assembly.specs.Words.{is_end}
+use Rattle.pc_assembly.specs.Names.{Names, most_row, is_name, row_named}
+use Rattle.pc_assembly.specs.Parts.{goto_at, part_here}
+use Rattle.pc_assembly.specs.Lines.{row_line, line_here}
 use Rattle.pc_assembly.specs.Object.{listing_reading}
 
 -- ---- which parts have a text in an object
@@ -53,20 +56,21 @@ part_words (part.Item item) = item_words operator_words item
 part_words (part.Test on) = test_words on
 part_words (part.Leaf leaf) = leaf_words leaf
 
--- each part is read back, and nothing is left
+-- each part is read back, whatever names rows have, and nothing is left
 abbrev pub PartsReadBack : Type 0
-PartsReadBack = (part : Part) → PartHasText part → part_here (part_words part) ≡ Ok (part, [])
+PartsReadBack = (names : Names) (part : Part) → PartHasText part → part_here names (part_words part) ≡ Ok (part, [])
 
 -- ---- lines
 
 -- Lines that are read one after the other, by what is due before the first of them and after the last: none is empty, and each tells
 -- what is said
-abbrev pub ReadAs : List ℕ → Stage → List (List ℕ) → List Content → Stage → Type 0
-ReadAs lengths due [] [] after = due ≡ after
-ReadAs lengths due (line ∷ lines) (content ∷ contents) after =
-    (next : Stage) × (is_end (unblank line) ≡ false) × (line_here lengths due (after_run class.Front line) ≡ Ok (next, content))
-    × ReadAs lengths next lines contents after
-ReadAs lengths due _ _ after = ⊥
+abbrev pub ReadAs : Names → List ℕ → Stage → List (List ℕ) → List Content → Stage → Type 0
+ReadAs names lengths due [] [] after = due ≡ after
+ReadAs names lengths due (line ∷ lines) (content ∷ contents) after =
+    (next : Stage) × (is_end (after_run class.Indent line) ≡ false)
+    × (line_here names lengths due (after_run class.Indent line) ≡ Ok (next, content))
+    × ReadAs names lengths next lines contents after
+ReadAs names lengths due _ _ after = ⊥
 
 -- ---- rows
 
@@ -84,9 +88,26 @@ RowHasText (At_leaf leaf) = LeafHasText leaf
 
 -- the lines of a row's tree are read back as its parts, in preorder, and its end is found: the row with the number `next` is due
 abbrev pub RowsReadBack : Type 0
-RowsReadBack = (lengths : List ℕ) (number next : ℕ) (row : CodeRow) → RowHasText row → length (tests_of row) ≤ 255
-    → ReadAs lengths (stage.Part side.Neither 0 next) (tree_lines None number 0 (codes "    ") (codes "    ") row)
+RowsReadBack = (names : Names) (lengths : List ℕ) (number next : ℕ) (row : CodeRow) → RowHasText row → length (tests_of row) ≤ 255
+    → ReadAs names lengths (stage.Part side.Neither 0 next) (tree_lines None number 0 (codes "    ") (codes "    ") row)
     (map (λ part. content.Part part) (parts_of row)) (stage.Row next)
+
+-- ---- names
+
+-- a name, as it stands in front of what does not go on with it
+abbrev pub IsName : List ℕ → Type 0
+IsName name = (is_name name ≡ true) × AllByRecursion (λ byte. is_in class.Name byte ≡ true) name
+
+-- a goto to a name is read as the goto to the number of the row that has it
+abbrev pub GotosReadByName : Type 0
+GotosReadByName = (names : Names) (name rest : List ℕ) (row : ℕ) → IsName name → prefix_len (is_in class.Name) rest ≡ 0
+    → row_named names name ≡ Some row → row < 2 ^ 32
+    → goto_at names (codes " " ++ (name ++ rest)) ≡ goto_at names (codes " row " ++ (decimal row ++ rest))
+
+-- the first line of a row by its name, if no row before it has the name, is read as that by its number
+abbrev pub RowsReadByName : Type 0
+RowsReadByName = (names : Names) (name rest : List ℕ) (due : ℕ) → IsName name → row_named names name ≡ Some due → due ≤ most_row
+    → row_line names due (name ++ (codes ":" ++ rest)) ≡ row_line names due (codes "row " ++ (decimal due ++ (codes ":" ++ rest)))
 
 -- ---- the whole
 

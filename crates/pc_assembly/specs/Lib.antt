@@ -2,6 +2,7 @@ pub mod models
 pub mod Bytes
 pub mod Spelling
 pub mod Words
+pub mod Names
 pub mod Operands
 pub mod Items
 pub mod Parts

@@ -51,8 +51,8 @@ unfoldable pub length_at : ℕ → List ℕ → Result (ℕ × List ℕ) Complai
 length_at number bytes = do
   a ← word_here expect.Array word.A (unblank bytes)
   named ← number_is 255 number expect.Array a
-  front ← mark_at mark.OpenBracket named
-  elements ← number_at most_number expect.Number front
+  bracket ← mark_at mark.OpenBracket named
+  elements ← number_at most_number expect.Number bracket
   rest ← mark_at mark.CloseBracket elements.1
   Ok (elements.0, rest)
 

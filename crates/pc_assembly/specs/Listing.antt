@@ -16,6 +16,7 @@ use Rattle.pc_assembly.specs.declared.line.Totals.{Totals}
 use Rattle.pc_assembly.specs.Bytes.{after_run}
 use Rattle.pc_assembly.specs.Words.{unblank, is_end}
 use Rattle.pc_assembly.specs.Limits.{Header, header_at}
+use Rattle.pc_assembly.specs.Names.{Names}
 use Rattle.pc_assembly.specs.Lines.{ReadLine, line_here}
 use Rattle.pc_assembly.specs.Text.{place_of, line_start}
 
@@ -53,20 +54,22 @@ no_lines = record { lines = []; stage = stage.Data 0 0 }
 -- with one line more, whose first word stands where so many of its bytes are left
 abbrev pub draft_with : Draft → ℕ → List ℕ → ReadLine → Draft
 draft_with draft number line read = record {
-  lines = draft.lines ++ record { at = place_of number line (length (after_run class.Front line)); content = read.1 } ∷ [];
+  lines = draft.lines ++ record { at = place_of number line (length (after_run class.Indent line)); content = read.1 } ∷ [];
   stage = read.0;
 }
 
--- after a line, by the lengths of the arrays; one with nothing but blanks and a comment tells nothing
-unfoldable pub line_read : List ℕ → Draft → ℕ → List ℕ → Result Draft ListingError
-line_read lengths draft number line =
-    if is_end (unblank line) then Ok draft
-    else in_line number line (line_here lengths draft.stage (after_run class.Front line)) >>= λ read. Ok (draft_with draft number line read)
+-- after a line, by the names of the rows and the lengths of the arrays; one with nothing but blanks, bars and a comment tells nothing
+unfoldable pub line_read : Names → List ℕ → Draft → ℕ → List ℕ → Result Draft ListingError
+line_read names lengths draft number line =
+    if is_end (after_run class.Indent line) then Ok draft
+    else in_line number line (line_here names lengths draft.stage (after_run class.Indent line))
+    >>= λ read. Ok (draft_with draft number line read)
 
 -- after lines, numbered from `number` on, with the number of the line after them
-unfoldable pub lines_read : List ℕ → Draft → ℕ → List (List ℕ) → Result (Draft × ℕ) ListingError
-lines_read lengths draft number [] = Ok (draft, number)
-lines_read lengths draft number (line ∷ lines) = line_read lengths draft number line >>= λ next. lines_read lengths next (suc number) lines
+unfoldable pub lines_read : Names → List ℕ → Draft → ℕ → List (List ℕ) → Result (Draft × ℕ) ListingError
+lines_read names lengths draft number [] = Ok (draft, number)
+lines_read names lengths draft number (line ∷ lines) =
+    line_read names lengths draft number line >>= λ next. lines_read names lengths next (suc number) lines
 
 -- ---- the end
 
@@ -78,14 +81,14 @@ due_at side.No = expect.Word word.No
 
 -- the end of the text, in front of the line with this number: no row may be open, and there is one at least
 abbrev pub ended : ℕ → Stage → Result Totals ListingError
-ended number (stage.Data array element) = Err (Unexpected (line_start number) (expect.Word word.Row))
+ended number (stage.Data array element) = Err (Unexpected (line_start number) expect.RowOrName)
 ended number (stage.Part side sides next) = Err (Unexpected (line_start number) (due_at side))
 ended number (stage.Row next) = Ok (record { rows = next; notes = 0 })
 ended number (stage.Note rows notes) = Ok (record { rows = rows; notes = notes })
 
 -- the lines from the second on, and how many rows and notes there are
-unfoldable pub body_read : List ℕ → ℕ → List (List ℕ) → Result (List Line × Totals) ListingError
-body_read lengths number lines = do
-  read ← lines_read lengths no_lines number lines
+unfoldable pub body_read : Names → List ℕ → ℕ → List (List ℕ) → Result (List Line × Totals) ListingError
+body_read names lengths number lines = do
+  read ← lines_read names lengths no_lines number lines
   totals ← ended read.1 read.0.stage
   Ok (read.0.lines, totals)

@@ -7,7 +7,7 @@ use Rattle.pc_assembly.specs.declared.spelling.Mark.TheVariants as mark
 use Rattle.pc_assembly.specs.declared.error.Complaint.{Complaint}
 use Rattle.pc_assembly.specs.declared.error.Expected.TheVariants as expect
 use Rattle.pc_assembly.specs.Bytes.{after_run}
-use Rattle.pc_assembly.specs.Words.{◌>>=◌, complain, unblank, is_next, word_here, word_at, mark_at, number_at}
+use Rattle.pc_assembly.specs.Words.{◌>>=◌, complain, unblank, is_next, is_alone, word_at, mark_at, number_at}
 use Rattle.pc_assembly.specs.Parts.{most_number}
 
 -- a choice, by the word that stands here
@@ -49,10 +49,14 @@ choice_here bytes =
     else (if is_next word.Plain bytes then formed plain_reason bytes
     else complain bytes expect.Form))
 
+-- the word `loop`, with no number right behind it, since `loop2` may be a name of a row
+abbrev pub loop_here : List ℕ → Result (List ℕ) Complaint
+loop_here bytes = if is_alone word.Loop bytes then Ok (after_run class.Name bytes) else complain bytes (expect.Word word.Loop)
+
 -- a note
 unfoldable pub note_here : List ℕ → Result (Note × List ℕ) Complaint
 note_here bytes = do
-  loop ← word_here (expect.Word word.Loop) word.Loop bytes
+  loop ← loop_here bytes
   line ← number_at most_number expect.Number loop
   colon ← mark_at mark.Colon line.1
   choice ← choice_here (unblank colon)

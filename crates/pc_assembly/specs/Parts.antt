@@ -14,7 +14,8 @@ use Rattle.pc_assembly.specs.declared.error.Expected.TheVariants as expect
 use Rattle.pc_assembly.specs.declared.part.Part.{Part}
 use Rattle.pc_assembly.specs.declared.part.Part.TheVariants as part
 use Rattle.pc_assembly.specs.Bytes.{after_run}
-use Rattle.pc_assembly.specs.Words.{◌>>=◌, complain, unblank, is_next, word_at, mark_at, number_at}
+use Rattle.pc_assembly.specs.Words.{◌>>=◌, complain, unblank, is_next, word_at, mark_at, number_or, number_at}
+use Rattle.pc_assembly.specs.Names.{Names, name_here, row_named}
 use Rattle.pc_assembly.specs.Operands.{operand_at}
 use Rattle.pc_assembly.specs.Items.{assignment_here, store_here, print_at}
 
@@ -28,11 +29,24 @@ test_at bytes = do
   on ← operand_at bytes
   Ok (part.Test on.0, on.1)
 
+-- the row with the number that stands after the word `row`
+unfoldable pub numbered_row : List ℕ → Result (ℕ × List ℕ) Complaint
+numbered_row bytes = number_at most_number expect.Number (after_run class.Letter bytes)
+
+-- the row with the name that stands here
+unfoldable pub named_row : Names → List ℕ → Result (ℕ × List ℕ) Complaint
+named_row names bytes = do
+  name ← name_here bytes
+  number_or bytes expect.RowName (row_named names name.0) name.1
+
+-- the row to which a goto leads
+unfoldable pub target_here : Names → List ℕ → Result (ℕ × List ℕ) Complaint
+target_here names bytes = if is_next word.Row bytes then numbered_row bytes else named_row names bytes
+
 -- what stands after `goto`
-unfoldable pub goto_at : List ℕ → Result (Leaf × List ℕ) Complaint
-goto_at bytes = do
-  rest ← word_at word.Row bytes
-  row ← number_at most_number expect.Number rest
+unfoldable pub goto_at : Names → List ℕ → Result (Leaf × List ℕ) Complaint
+goto_at names bytes = do
+  row ← target_here names (unblank bytes)
   Ok (Goto row.0, row.1)
 
 -- a kind of trap whose first word stands here, and two further words
@@ -53,17 +67,17 @@ trap_kind_here bytes =
 -- what stands after `trap`
 unfoldable pub trap_at : List ℕ → Result (Leaf × List ℕ) Complaint
 trap_at bytes = do
-  front ← mark_at mark.Colon bytes
-  kind ← trap_kind_here (unblank front)
+  colon ← mark_at mark.Colon bytes
+  kind ← trap_kind_here (unblank colon)
   at ← word_at word.At kind.1
   rest ← word_at word.Line at
   line ← number_at most_number expect.Number rest
   Ok (Trap kind.0 line.0, line.1)
 
 -- a leaf; anything else is no part of a row
-unfoldable pub leaf_here : List ℕ → Result (Leaf × List ℕ) Complaint
-leaf_here bytes =
-    if is_next word.Goto bytes then goto_at (after_run class.Letter bytes)
+unfoldable pub leaf_here : Names → List ℕ → Result (Leaf × List ℕ) Complaint
+leaf_here names bytes =
+    if is_next word.Goto bytes then goto_at names (after_run class.Letter bytes)
     else (if is_next word.Stop bytes then Ok (Stop, after_run class.Letter bytes)
     else (if is_next word.Trap bytes then trap_at (after_run class.Letter bytes)
     else complain bytes expect.Part))
@@ -76,11 +90,11 @@ item_part read = read >>= λ item. Ok (part.Item item.0, item.1)
 abbrev pub leaf_part : Result (Leaf × List ℕ) Complaint → Result (Part × List ℕ) Complaint
 leaf_part read = read >>= λ leaf. Ok (part.Leaf leaf.0, leaf.1)
 
--- a part of a row
-unfoldable pub part_here : List ℕ → Result (Part × List ℕ) Complaint
-part_here bytes =
+-- a part of a row, by the names of the rows
+unfoldable pub part_here : Names → List ℕ → Result (Part × List ℕ) Complaint
+part_here names bytes =
     if is_next word.R bytes then item_part (assignment_here bytes)
     else (if is_next word.A bytes then item_part (store_here bytes)
     else (if is_next word.Print bytes then item_part (print_at (after_run class.Letter bytes))
     else (if is_next word.If bytes then test_at (after_run class.Letter bytes)
-    else leaf_part (leaf_here bytes))))
+    else leaf_part (leaf_here names bytes))))

@@ -37,6 +37,10 @@ unblank bytes = after_run class.Blank bytes
 abbrev pub is_next : ListingWord → List ℕ → Bool
 is_next word bytes = bytes_eq (word_spelling word) (run class.Letter bytes)
 
+-- whether the letters and digits at the beginning are this word
+abbrev pub is_alone : ListingWord → List ℕ → Bool
+is_alone word bytes = bytes_eq (word_spelling word) (run class.Name bytes)
+
 -- this word
 abbrev pub word_here : Expected → ListingWord → List ℕ → Result (List ℕ) Complaint
 word_here expected word bytes = if is_next word bytes then Ok (after_run class.Letter bytes) else complain bytes expected

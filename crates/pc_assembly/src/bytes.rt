@@ -10,11 +10,13 @@ pub enum Class {
     /// Spaces, tabs and carriage returns.
     Blank,
     /// What stands in front of a line of a row: blanks and bars.
-    Front,
+    Indent,
     /// What a word is made of.
     Letter,
     /// What a number is made of.
     Digit,
+    /// What a name is made of: letters and digits.
+    Name,
     /// What an operator other than `below` is made of.
     Sign,
     /// All but the line feed.
@@ -28,13 +30,21 @@ impl Class {
     {
         match self {
             Class::Blank => matches!(byte, b' ' | b'\t' | b'\r'),
-            Class::Front => matches!(byte, b' ' | b'\t' | b'\r' | b'|'),
-            Class::Letter => byte.is_ascii_alphabetic() || byte == b'_',
+            Class::Indent => matches!(byte, b' ' | b'\t' | b'\r' | b'|'),
+            Class::Letter => is_letter(byte),
             Class::Digit => byte.is_ascii_digit(),
+            Class::Name => is_letter(byte) || byte.is_ascii_digit(),
             Class::Sign => is_sign(byte),
             Class::InLine => byte != b'\n',
         }
     }
+}
+
+/// What a word is made of.
+fn is_letter(byte: u8) -> bool
+    ensures { result ≡ is_in Class.Letter byte }
+{
+    byte.is_ascii_alphabetic() || byte == b'_'
 }
 
 /// What operators other than `below` are made of.

@@ -5,6 +5,7 @@ ghost use Rattle.pc_word.specs.Exact.{IsExact};
 ghost use Rattle.pc_assembly.specs.models.Causes.{halt_cause};
 ghost use Rattle.pc_assembly.specs.models.Headers.{header_of};
 ghost use Rattle.pc_assembly.specs.models.Drafts.{draft_of};
+ghost use Rattle.pc_assembly.specs.models.Tables.{names_in};
 ghost use Rattle.pc_assembly.specs.models.Ranges.{IsByteContent};
 ghost use Rattle.pc_assembly.specs.Object.{listing_cause};
 ghost use Rattle.pc_assembly.specs.Text.{lines_of, place_of};
@@ -20,6 +21,7 @@ use crate::error::{Complaint, Expected, Halt, ListingError};
 use crate::limits::{Header, header_line};
 use crate::line::{Content, Line, Side, Stage, Totals};
 use crate::lines::line_here;
+use crate::names::Names;
 use crate::pushing::push_content;
 use crate::spelling::Word;
 use crate::text::{cut_line, line_start, place_of};
@@ -58,16 +60,17 @@ fn header_in(alloc: Global, number: usize, line: &[u8]) -> Result<Header, Listin
 
 /// What a line tells, and what is due after it.
 fn content_in(
+    names: &Names,
     lengths: &[u32],
     stage: Stage,
     number: usize,
     line: &[u8],
 ) -> Result<(Stage, Content), ListingError>
     ensures read { IsExact (λ x. x) listing_cause result
-        (in_line number line.now (line_here lengths.now stage (after_run class.Front line.now))) }
+        (in_line number line.now (line_here (names_in names.now) lengths.now stage (after_run class.Indent line.now))) }
     ensures bound { IfOk result (λ x. IsByteContent x.1) }
 {
-    match line_here(lengths, stage, after_run(Class::Front, line)) {
+    match line_here(names, lengths, stage, after_run(Class::Indent, line)) {
         Ok(read) => Ok(read),
         Err(Halt::Memory) => Err(ListingError::Memory),
         Err(Halt::Unexpected(complaint)) => Err(unexpected_in(number, line, complaint)),
@@ -111,7 +114,7 @@ fn keep(
     ensures rows { OnOk result (draft.new.rows.items ≡ draft.old.rows.items ++ content_rows content) }
 {
     push_content(&mut draft.rows, content)?;
-    let start = after_run(Class::Front, line);
+    let start = after_run(Class::Indent, line);
     let at = place_of(number, line, start.len());
     draft.lines.push(Line { at, content })?;
     draft.stage = next;
@@ -122,18 +125,19 @@ fn keep(
 #[tactic(auto, unfolding(crate::specs::Listing::line_read))]
 fn read_line(
     draft: &mut Draft,
+    names: &Names,
     lengths: &[u32],
     number: usize,
     line: &[u8],
 ) -> Result<(), ListingError>
     requires { draft.old.rows.items ≡ rows_bytes draft.old.lines.items }
-    ensures read { IsExact (λ _. draft_of draft.new) listing_cause result (line_read lengths.now (draft_of draft.old) number line.now) }
+    ensures read { IsExact (λ _. draft_of draft.new) listing_cause result (line_read (names_in names.now) lengths.now (draft_of draft.old) number line.now) }
     ensures rows { OnOk result (draft.new.rows.items ≡ rows_bytes draft.new.lines.items) }
 {
-    if is_end(unblank(line)) {
+    if is_end(after_run(Class::Indent, line)) {
         return Ok(());
     }
-    let (next, content) = content_in(lengths, draft.stage, number, line)?;
+    let (next, content) = content_in(names, lengths, draft.stage, number, line)?;
     keep(draft, number, line, next, content)?;
     Ok(())
 }
@@ -142,12 +146,13 @@ fn read_line(
 #[tactic(auto, unfolding(crate::specs::Listing::lines_read, crate::specs::Text::lines_of))]
 fn read_lines(
     alloc: Global,
+    names: &Names,
     lengths: &[u32],
     first: usize,
     text: &[u8],
 ) -> Result<(Draft, usize), ListingError>
     requires { first + length text.now < 2 ^ 64 }
-    ensures read { IsExact (λ x. (draft_of x.0, x.1)) listing_cause result (lines_read lengths.now no_lines first (lines_of text.now)) }
+    ensures read { IsExact (λ x. (draft_of x.0, x.1)) listing_cause result (lines_read (names_in names.now) lengths.now no_lines first (lines_of text.now)) }
     ensures rows { IfOk result (λ x. x.0.rows.items ≡ rows_bytes x.0.lines.items) }
 {
     let mut draft = Draft {
@@ -162,7 +167,7 @@ fn read_lines(
     let mut rest = text;
     while !rest.is_empty() {
         let (line, after) = cut_line(rest);
-        read_line(&mut draft, lengths, number, line)?;
+        read_line(&mut draft, names, lengths, number, line)?;
         number += 1;
         rest = after;
     }
@@ -187,7 +192,7 @@ fn ended(number: usize, stage: Stage) -> Result<Totals, ListingError>
     match stage {
         Stage::Data { .. } => Err(ListingError::Unexpected {
             at: line_start(number),
-            expected: Expected::Word(Word::Row),
+            expected: Expected::RowOrName,
         }),
         Stage::Part { side, .. } => Err(ListingError::Unexpected {
             at: line_start(number),
@@ -205,15 +210,16 @@ fn ended(number: usize, stage: Stage) -> Result<Totals, ListingError>
 #[tactic(auto, unfolding(crate::specs::Listing::body_read))]
 pub fn body(
     alloc: Global,
+    names: &Names,
     lengths: &[u32],
     first: usize,
     text: &[u8],
 ) -> Result<(Draft, Totals), ListingError>
     requires { first + length text.now < 2 ^ 64 }
-    ensures read { IsExact (λ x. (x.0.lines.items, x.1)) listing_cause result (body_read lengths.now first (lines_of text.now)) }
+    ensures read { IsExact (λ x. (x.0.lines.items, x.1)) listing_cause result (body_read (names_in names.now) lengths.now first (lines_of text.now)) }
     ensures rows { IfOk result (λ x. x.0.rows.items ≡ rows_bytes x.0.lines.items) }
 {
-    let (draft, number) = read_lines(alloc, lengths, first, text)?;
+    let (draft, number) = read_lines(alloc, names, lengths, first, text)?;
     let totals = ended(number, draft.stage)?;
     Ok((draft, totals))
 }

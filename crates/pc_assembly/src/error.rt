@@ -47,6 +47,12 @@ pub enum Expected {
     TrapKind,
     /// The number of the next row.
     RowNumber,
+    /// `row` and a number, or the name of a row.
+    RowOrName,
+    /// A name that a row has.
+    RowName,
+    /// A name that no row before this one has.
+    NewName,
     /// The form of a loop: `pipelined`, `packed` or `plain`.
     Form,
     /// What decided the form of a loop.

@@ -4,13 +4,14 @@
 mod bytes;
 mod draft;
 mod error;
-mod front;
+mod header;
 mod items;
 mod laws;
 mod limits;
 mod line;
 mod lines;
 mod listing;
+mod names;
 mod notes;
 mod operands;
 mod part;

@@ -1,24 +1,26 @@
 //! The reader of a line, by what is due.
 
-ghost use Rattle.std.specs.Prelude.{◌≡◌, IfOk, nat_lt, slice_index};
+ghost use Rattle.std.specs.Prelude.{◌≡◌, ◌≤◌, IfOk, nat_lt, slice_index};
 ghost use Rattle.pc_word.specs.Exact.{IsExact};
 ghost use Rattle.pc_assembly.specs.models.Causes.{halt_cause};
+ghost use Rattle.pc_assembly.specs.models.Tables.{names_in};
+ghost use Rattle.pc_assembly.specs.Names.{most_row};
 ghost use Rattle.pc_assembly.specs.models.Ranges.{IsByteContent};
-ghost use Rattle.pc_assembly.specs.Lines.{is_in_turn, in_turn, word_line, share_at, shares_at, shares_or_end, counts_here, row_line, side_here, stage_after_leaf, stage_after, part_line, note_line, data_line, next_line, line_here};
+ghost use Rattle.pc_assembly.specs.Lines.{is_in_turn, in_turn, word_line, used_at, usage_at, usage_or_end, usage_here, numbered_at, is_row, named_here, row_here, row_line, side_here, stage_after_leaf, stage_after, part_line, note_line, data_line, is_note, next_line, line_here};
 
-use crate::bytes::unblank;
+use crate::bytes::{Class, after_run, unblank};
 use crate::error::{Expected, Halt, unexpected};
 use crate::limits::memory;
 use crate::line::{Content, Side, Stage};
+use crate::names::{MOST_ROW, Names, is_named, name_here, row_named};
 use crate::notes::note_here;
 use crate::operands::{array_here, literal_here};
 use crate::part::Part;
 use crate::parts::part_here;
 use crate::spelling::{Mark, Word};
-use crate::words::{end, is_end, is_mark, is_next, mark, number, number_is, word, word_here};
-
-/// The greatest number that a row may have.
-const MOST_ROW: u32 = 16_777_215;
+use crate::words::{
+    end, is_alone, is_end, is_mark, is_next, mark, number, number_is, word, word_here,
+};
 
 /// Whether an element is one of its array, by the lengths of the arrays.
 fn is_within(lengths: &[u32], array: u8, element: u32) -> bool
@@ -67,9 +69,9 @@ fn word_line(
 }
 
 /// How many there are of how many there may be.
-#[tactic(auto, unfolding(crate::specs::Lines::share_at))]
-fn share(bytes: &[u8]) -> Result<&[u8], Halt>
-    ensures { IsExact (λ rest. rest.now) halt_cause result (share_at bytes.now) }
+#[tactic(auto, unfolding(crate::specs::Lines::used_at))]
+fn used(bytes: &[u8]) -> Result<&[u8], Halt>
+    ensures { IsExact (λ rest. rest.now) halt_cause result (used_at bytes.now) }
 {
     let (_, rest) = number(u32::MAX, Expected::Number, bytes)?;
     let rest = word(Word::Of, rest)?;
@@ -78,50 +80,96 @@ fn share(bytes: &[u8]) -> Result<&[u8], Halt>
 }
 
 /// What a row has of what it may have.
-#[tactic(auto, unfolding(crate::specs::Lines::shares_at))]
-fn shares(bytes: &[u8]) -> Result<&[u8], Halt>
-    ensures { IsExact (λ rest. rest.now) halt_cause result (shares_at bytes.now) }
+#[tactic(auto, unfolding(crate::specs::Lines::usage_at))]
+fn usage(bytes: &[u8]) -> Result<&[u8], Halt>
+    ensures { IsExact (λ rest. rest.now) halt_cause result (usage_at bytes.now) }
 {
-    let rest = share(bytes)?;
+    let rest = used(bytes)?;
     let rest = word(Word::Items, rest)?;
     let rest = mark(Mark::Comma, rest)?;
-    let rest = share(rest)?;
+    let rest = used(rest)?;
     let rest = word(Word::Tests, rest)?;
     let rest = mark(Mark::Comma, rest)?;
-    let rest = share(rest)?;
+    let rest = used(rest)?;
     memory(rest)
 }
 
-fn shares_or_end(bytes: &[u8]) -> Result<&[u8], Halt>
-    ensures { IsExact (λ rest. rest.now) halt_cause result (shares_or_end bytes.now) }
+fn usage_or_end(bytes: &[u8]) -> Result<&[u8], Halt>
+    ensures { IsExact (λ rest. rest.now) halt_cause result (usage_or_end bytes.now) }
 {
     if is_end(bytes) {
         return Ok(bytes);
     }
-    shares(bytes)
+    usage(bytes)
 }
 
 /// What stands after the number of a row, which says nothing of the object.
-#[tactic(auto, unfolding(crate::specs::Lines::counts_here))]
-fn counts_here(bytes: &[u8]) -> Result<&[u8], Halt>
-    ensures { IsExact (λ rest. rest.now) halt_cause result (counts_here bytes.now) }
+#[tactic(auto, unfolding(crate::specs::Lines::usage_here))]
+fn usage_here(bytes: &[u8]) -> Result<&[u8], Halt>
+    ensures { IsExact (λ rest. rest.now) halt_cause result (usage_here bytes.now) }
 {
     if !is_mark(Mark::Colon, bytes) {
         return Ok(bytes);
     }
     let rest = mark(Mark::Colon, bytes)?;
-    shares_or_end(unblank(rest))
+    usage_or_end(unblank(rest))
+}
+
+/// `row` and the number of a row, and what it has.
+#[tactic(auto, unfolding(crate::specs::Lines::numbered_at))]
+fn numbered(due: u32, bytes: &[u8]) -> Result<&[u8], Halt>
+    ensures { IsExact (λ rest. rest.now) halt_cause result (numbered_at due bytes.now) }
+{
+    let rest = after_run(Class::Letter, bytes);
+    let rest = number_is(MOST_ROW, due, Expected::RowNumber, unblank(rest))?;
+    usage_here(unblank(rest))
+}
+
+/// Whether a row has a name, and not one before it.
+fn is_row(due: u32, row: Option<u32>) -> bool
+    ensures { result ≡ is_row due row }
+{
+    match row {
+        Some(row) => row == due,
+        None => false,
+    }
+}
+
+/// A name and a colon, and what the row has.
+#[tactic(auto, unfolding(crate::specs::Lines::named_here))]
+fn named_here<'a>(names: &Names, due: u32, bytes: &'a [u8]) -> Result<&'a [u8], Halt>
+    ensures { IsExact (λ rest. rest.now) halt_cause result (named_here (names_in names.now) due bytes.now) }
+{
+    let (name, rest) = name_here(bytes)?;
+    let rest = mark(Mark::Colon, rest)?;
+    if !is_row(due, row_named(names, name)) {
+        return Err(unexpected(bytes, Expected::NewName));
+    }
+    usage_or_end(unblank(rest))
+}
+
+/// The row with this number, by it or by a name.
+#[tactic(auto, unfolding(crate::specs::Lines::row_here))]
+fn row_here<'a>(names: &Names, due: u32, bytes: &'a [u8]) -> Result<&'a [u8], Halt>
+    ensures read { IsExact (λ rest. rest.now) halt_cause result (row_here (names_in names.now) due bytes.now) }
+    ensures bound { IfOk result (λ _. due ≤ most_row) }
+{
+    if due > MOST_ROW {
+        return Err(unexpected(bytes, Expected::Word(Word::Loop)));
+    }
+    if is_next(Word::Row, bytes) {
+        return numbered(due, bytes);
+    }
+    named_here(names, due, bytes)
 }
 
 /// The first line of the row with this number.
 #[tactic(auto, unfolding(crate::specs::Lines::row_line))]
-fn row_line(due: u32, bytes: &[u8]) -> Result<(Stage, Content), Halt>
-    ensures read { IsExact (λ x. x) halt_cause result (row_line due bytes.now) }
+fn row_line(names: &Names, due: u32, bytes: &[u8]) -> Result<(Stage, Content), Halt>
+    ensures read { IsExact (λ x. x) halt_cause result (row_line (names_in names.now) due bytes.now) }
     ensures bound { IfOk result (λ x. IsByteContent x.1) }
 {
-    let rest = word_here(Expected::Word(Word::Row), Word::Row, bytes)?;
-    let rest = number_is(MOST_ROW, due, Expected::RowNumber, unblank(rest))?;
-    let rest = counts_here(unblank(rest))?;
+    let rest = row_here(names, due, bytes)?;
     end(rest)?;
     let next = Stage::Part {
         side: Side::Neither,
@@ -182,12 +230,18 @@ fn stage_after(bytes: &[u8], sides: u8, next: u32, part: Part) -> Result<Stage, 
 
 /// A part of a row.
 #[tactic(auto, unfolding(crate::specs::Lines::part_line))]
-fn part_line(side: Side, sides: u8, next: u32, bytes: &[u8]) -> Result<(Stage, Content), Halt>
-    ensures read { IsExact (λ x. x) halt_cause result (part_line side sides next bytes.now) }
+fn part_line(
+    names: &Names,
+    side: Side,
+    sides: u8,
+    next: u32,
+    bytes: &[u8],
+) -> Result<(Stage, Content), Halt>
+    ensures read { IsExact (λ x. x) halt_cause result (part_line (names_in names.now) side sides next bytes.now) }
     ensures bound { IfOk result (λ x. IsByteContent x.1) }
 {
     let rest = side_here(side, bytes)?;
-    let (part, rest) = part_here(unblank(rest))?;
+    let (part, rest) = part_here(names, unblank(rest))?;
     end(rest)?;
     let after = stage_after(bytes, sides, next, part)?;
     Ok((after, Content::Part(part)))
@@ -212,40 +266,53 @@ fn note_line(rows: u32, notes: u16, bytes: &[u8]) -> Result<(Stage, Content), Ha
 }
 
 fn data_line(
+    names: &Names,
     lengths: &[u32],
     array: u8,
     element: u32,
     bytes: &[u8],
 ) -> Result<(Stage, Content), Halt>
-    ensures read { IsExact (λ x. x) halt_cause result (data_line lengths.now array element bytes.now) }
+    ensures read { IsExact (λ x. x) halt_cause result (data_line (names_in names.now) lengths.now array element bytes.now) }
     ensures bound { IfOk result (λ x. IsByteContent x.1) }
 {
     if is_next(Word::A, bytes) {
         return word_line(lengths, array, element, bytes);
     }
-    row_line(0, bytes)
+    row_line(names, 0, bytes)
 }
 
-fn next_line(next: u32, bytes: &[u8]) -> Result<(Stage, Content), Halt>
-    ensures read { IsExact (λ x. x) halt_cause result (next_line next bytes.now) }
+/// Whether a note begins here.
+fn is_note(bytes: &[u8]) -> bool
+    ensures { result ≡ is_note bytes.now }
+{
+    is_alone(Word::Loop, bytes) && !is_named(bytes)
+}
+
+fn next_line(names: &Names, next: u32, bytes: &[u8]) -> Result<(Stage, Content), Halt>
+    ensures read { IsExact (λ x. x) halt_cause result (next_line (names_in names.now) next bytes.now) }
     ensures bound { IfOk result (λ x. IsByteContent x.1) }
 {
-    if is_next(Word::Loop, bytes) {
+    if is_note(bytes) {
         return note_line(next, 0, bytes);
     }
-    row_line(next, bytes)
+    row_line(names, next, bytes)
 }
 
 /// What a line tells, and what is due after it. Its first word stands where `bytes` begin.
 #[tactic(auto, unfolding(crate::specs::Lines::line_here))]
-pub fn line_here(lengths: &[u32], stage: Stage, bytes: &[u8]) -> Result<(Stage, Content), Halt>
-    ensures read { IsExact (λ x. x) halt_cause result (line_here lengths.now stage bytes.now) }
+pub fn line_here(
+    names: &Names,
+    lengths: &[u32],
+    stage: Stage,
+    bytes: &[u8],
+) -> Result<(Stage, Content), Halt>
+    ensures read { IsExact (λ x. x) halt_cause result (line_here (names_in names.now) lengths.now stage bytes.now) }
     ensures bound { IfOk result (λ x. IsByteContent x.1) }
 {
     match stage {
-        Stage::Data { array, element } => data_line(lengths, array, element, bytes),
-        Stage::Part { side, sides, next } => part_line(side, sides, next, bytes),
-        Stage::Row { next } => next_line(next, bytes),
+        Stage::Data { array, element } => data_line(names, lengths, array, element, bytes),
+        Stage::Part { side, sides, next } => part_line(names, side, sides, next, bytes),
+        Stage::Row { next } => next_line(names, next, bytes),
         Stage::Note { rows, notes } => note_line(rows, notes, bytes),
     }
 }

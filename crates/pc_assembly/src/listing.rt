@@ -6,14 +6,15 @@ ghost use Rattle.pc_object.specs.Cause.{object_cause};
 ghost use Rattle.pc_object.specs.ObjectText.{CodeWithNotes, IsObject, object_of};
 ghost use Rattle.pc_object.specs.declared.refusal.ObjectError.{ObjectError as Refusal};
 ghost use Rattle.pc_assembly.specs.models.Headers.{header_of};
-ghost use Rattle.pc_assembly.specs.Assembled.{rows_bytes, part_size, content_size, place_among, place_at};
+ghost use Rattle.pc_assembly.specs.Assembled.{rows_bytes, part_size, content_size, place_among, is_word_at, word_among, place_at};
 ghost use Rattle.pc_assembly.specs.Object.{offset_of, told, loaded, assembled, listing_reading, listing_cause};
 
 use crate::draft::{Draft, body, first_line};
 use crate::error::{ListingError, Place};
-use crate::front::front;
+use crate::header::object_header;
 use crate::limits::Header;
 use crate::line::{Content, Line, Totals};
+use crate::names::names_of;
 use crate::part::Part;
 use crate::pushing::{push_notes, push_u16};
 use crate::text::line_start;
@@ -63,15 +64,40 @@ fn place_among(offset: usize, last: Place, lines: &[Line]) -> Place
     last
 }
 
+/// Whether a line tells the word of the data that has so many bytes before it.
+fn is_word_at(before: usize, content: Content) -> bool
+    ensures { result ≡ is_word_at before content }
+{
+    match content {
+        Content::Word { array, .. } => before == 4 * (array as usize + 1),
+        Content::Row | Content::Part(_) | Content::Note(_) => false,
+    }
+}
+
+/// Where the word of the data stands that has so many bytes of the data before it.
+#[tactic(auto, unfolding(crate::specs::Assembled::word_among))]
+fn word_among(before: usize, last: Place, lines: &[Line]) -> Place
+    ensures { result ≡ word_among before last lines.now }
+{
+    let mut left = before;
+    for line in lines {
+        if is_word_at(left, line.content) {
+            return line.at;
+        }
+        left = left.saturating_sub(4);
+    }
+    last
+}
+
 /// Where a byte stands, by its offset.
-fn place_at(number: usize, front: usize, offset: u32, lines: &[Line]) -> Place
-    ensures { result ≡ place_at number front offset lines.now }
+fn place_at(number: usize, data_at: usize, rows_at: usize, offset: u32, lines: &[Line]) -> Place
+    ensures { result ≡ place_at number data_at rows_at offset lines.now }
 {
     let offset = offset as usize;
-    if offset < front {
-        return line_start(number);
+    if offset < rows_at {
+        return word_among(offset.saturating_sub(data_at), line_start(number), lines);
     }
-    place_among(offset - front, line_start(number), lines)
+    place_among(offset - rows_at, line_start(number), lines)
 }
 
 /// The offset that a refusal of bytes names.
@@ -87,9 +113,15 @@ fn offset_of(why: ObjectError) -> u32
 }
 
 /// A refusal of bytes with its place in the listing.
-fn refusal(number: usize, front: usize, lines: &[Line], why: ObjectError) -> ListingError
+fn refusal(
+    number: usize,
+    data_at: usize,
+    rows_at: usize,
+    lines: &[Line],
+    why: ObjectError,
+) -> ListingError
     ensures { (answer : Result CodeWithNotes Refusal) → IsRefusal (object_cause why) answer
-        → IsRefusal (listing_cause result) (told number front lines.now answer) }
+        → IsRefusal (listing_cause result) (told number data_at rows_at lines.now answer) }
 {
     match why {
         ObjectError::Memory => ListingError::Memory,
@@ -97,7 +129,7 @@ fn refusal(number: usize, front: usize, lines: &[Line], why: ObjectError) -> Lis
         | ObjectError::Truncated { .. }
         | ObjectError::BadField { .. }
         | ObjectError::Trailing { .. } => ListingError::Refused {
-            at: place_at(number, front, offset_of(why), lines),
+            at: place_at(number, data_at, rows_at, offset_of(why), lines),
             why,
         },
     }
@@ -107,11 +139,12 @@ fn refusal(number: usize, front: usize, lines: &[Line], why: ObjectError) -> Lis
 fn loaded(
     alloc: Global,
     number: usize,
-    front: usize,
+    data_at: usize,
+    rows_at: usize,
     lines: &[Line],
     bytes: &[u8],
 ) -> Result<Object, ListingError>
-    ensures read { IsExact object_of listing_cause result (loaded number front lines.now bytes.now) }
+    ensures read { IsExact object_of listing_cause result (loaded number data_at rows_at lines.now bytes.now) }
     ensures object { IfOk result (λ object. IsObject (object_of object)) }
 {
     if bytes.len() > MOST_OBJECT {
@@ -119,7 +152,7 @@ fn loaded(
     }
     match decode(alloc, bytes) {
         Ok(object) => Ok(object),
-        Err(why) => Err(refusal(number, front, lines, why)),
+        Err(why) => Err(refusal(number, data_at, rows_at, lines, why)),
     }
 }
 
@@ -138,12 +171,13 @@ fn assembled(
     ensures object { IfOk result (λ object. IsObject (object_of object)) }
 {
     let lines = draft.lines.as_slice();
-    let mut bytes = front(alloc, header, lines, totals.rows)?;
-    let front = bytes.len();
+    let mut bytes = object_header(alloc, header, lines, totals.rows)?;
+    let data_at = 10 + 4 * header.arrays.len();
+    let rows_at = bytes.len();
     bytes.extend_from_slice(draft.rows.as_slice())?;
     push_u16(&mut bytes, totals.notes)?;
     push_notes(&mut bytes, lines)?;
-    loaded(alloc, number, front, lines, bytes.as_slice())
+    loaded(alloc, number, data_at, rows_at, lines, bytes.as_slice())
 }
 
 /// The object whose listing a text is, as `pview` writes it or by hand.
@@ -151,7 +185,7 @@ fn assembled(
 /// The text is read line by line, and the first that is wrong decides, with the place of what it does not
 /// go on with. The bytes that the lines stand for are then read as an object, which has to keep the limits
 /// that it states and to be well formed; a refusal is told with the place of the line of its byte, or of the
-/// line of the limits for what stands in front of the rows. `Memory` alone may come at any text. The time is
+/// line of the limits for what is neither of the rows nor a word of the data. `Memory` alone may come at any text. The time is
 /// linear in the text's length, with one pass over the lines more for each array.
 #[tactic(auto, unfolding(crate::specs::Object::listing_reading))]
 pub fn read_listing(alloc: Global, text: &[u8]) -> Result<Object, ListingError>
@@ -160,6 +194,7 @@ pub fn read_listing(alloc: Global, text: &[u8]) -> Result<Object, ListingError>
     ensures object { IfOk result (λ object. IsObject (object_of object)) }
 {
     let (header, number, rest) = first_line(alloc, text)?;
-    let (draft, totals) = body(alloc, header.arrays.as_slice(), number + 1, rest)?;
+    let names = names_of(alloc, rest)?;
+    let (draft, totals) = body(alloc, &names, header.arrays.as_slice(), number + 1, rest)?;
     assembled(alloc, number, &header, &draft, totals)
 }

@@ -2,12 +2,12 @@
 
 ghost use Rattle.pc_word.specs.Exact.{IsExact};
 ghost use Rattle.pc_assembly.specs.models.Causes.{halt_cause};
-ghost use Rattle.pc_assembly.specs.Notes.{packed_reason, plain_reason, pipelined_reason, choice_here, note_here};
+ghost use Rattle.pc_assembly.specs.Notes.{packed_reason, plain_reason, pipelined_reason, choice_here, loop_here, note_here};
 
 use crate::bytes::{Class, after_run, unblank};
 use crate::error::{Expected, Halt, unexpected};
 use crate::spelling::{Mark, Word};
-use crate::words::{is_next, mark, number, word, word_here};
+use crate::words::{is_alone, is_next, mark, number, word};
 use pc_object::Note;
 
 #[tactic(auto, unfolding(crate::specs::Notes::packed_reason))]
@@ -78,12 +78,22 @@ fn choice_here(bytes: &[u8]) -> Result<(u8, &[u8]), Halt>
     Err(unexpected(bytes, Expected::Form))
 }
 
+/// The word `loop`.
+fn loop_here(bytes: &[u8]) -> Result<&[u8], Halt>
+    ensures { IsExact (λ rest. rest.now) halt_cause result (loop_here bytes.now) }
+{
+    if is_alone(Word::Loop, bytes) {
+        return Ok(after_run(Class::Name, bytes));
+    }
+    Err(unexpected(bytes, Expected::Word(Word::Loop)))
+}
+
 /// A note.
 #[tactic(auto, unfolding(crate::specs::Notes::note_here))]
 pub fn note_here(bytes: &[u8]) -> Result<(Note, &[u8]), Halt>
     ensures { IsExact (λ x. (x.0, x.1.now)) halt_cause result (note_here bytes.now) }
 {
-    let rest = word_here(Expected::Word(Word::Loop), Word::Loop, bytes)?;
+    let rest = loop_here(bytes)?;
     let (line, rest) = number(u32::MAX, Expected::Number, rest)?;
     let rest = mark(Mark::Colon, rest)?;
     let (choice, rest) = choice_here(unblank(rest))?;

@@ -3,12 +3,14 @@
 ghost use Rattle.std.specs.Prelude.{◌≡◌, IfOk};
 ghost use Rattle.pc_word.specs.Exact.{IsExact};
 ghost use Rattle.pc_assembly.specs.models.Causes.{halt_cause};
+ghost use Rattle.pc_assembly.specs.models.Tables.{names_in};
 ghost use Rattle.pc_assembly.specs.models.Ranges.{IsBytePart};
-ghost use Rattle.pc_assembly.specs.Parts.{item_part, leaf_part, test_at, goto_at, trap_kind_here, trap_at, leaf_here, part_here};
+ghost use Rattle.pc_assembly.specs.Parts.{item_part, leaf_part, test_at, numbered_row, named_row, target_here, goto_at, trap_kind_here, trap_at, leaf_here, part_here};
 
 use crate::bytes::{Class, after_run, unblank};
 use crate::error::{Expected, Halt, unexpected};
 use crate::items::{assignment_here, print, store_here};
+use crate::names::{Names, name_here, row_named};
 use crate::operands::operand;
 use crate::part::Part;
 use crate::spelling::{Mark, Word};
@@ -26,13 +28,43 @@ fn test(bytes: &[u8]) -> Result<(Part, &[u8]), Halt>
     Ok((Part::Test(on), rest))
 }
 
+/// The row with the number that stands after `row`.
+#[tactic(auto, unfolding(crate::specs::Parts::numbered_row))]
+fn numbered_row(bytes: &[u8]) -> Result<(u32, &[u8]), Halt>
+    ensures { IsExact (λ x. (x.0, x.1.now)) halt_cause result (numbered_row bytes.now) }
+{
+    number(u32::MAX, Expected::Number, after_run(Class::Letter, bytes))
+}
+
+/// The row with the name that stands here.
+#[tactic(auto, unfolding(crate::specs::Parts::named_row))]
+fn named_row<'a>(names: &Names, bytes: &'a [u8]) -> Result<(u32, &'a [u8]), Halt>
+    ensures { IsExact (λ x. (x.0, x.1.now)) halt_cause result (named_row (names_in names.now) bytes.now) }
+{
+    let (name, rest) = name_here(bytes)?;
+    match row_named(names, name) {
+        Some(row) => Ok((row, rest)),
+        None => Err(unexpected(bytes, Expected::RowName)),
+    }
+}
+
+/// The row to which a goto leads.
+#[tactic(auto, unfolding(crate::specs::Parts::target_here))]
+fn target_here<'a>(names: &Names, bytes: &'a [u8]) -> Result<(u32, &'a [u8]), Halt>
+    ensures { IsExact (λ x. (x.0, x.1.now)) halt_cause result (target_here (names_in names.now) bytes.now) }
+{
+    if is_next(Word::Row, bytes) {
+        return numbered_row(bytes);
+    }
+    named_row(names, bytes)
+}
+
 /// What stands after `goto`.
 #[tactic(auto, unfolding(crate::specs::Parts::goto_at))]
-fn goto(bytes: &[u8]) -> Result<(Leaf, &[u8]), Halt>
-    ensures { IsExact (λ x. (x.0, x.1.now)) halt_cause result (goto_at bytes.now) }
+fn goto<'a>(names: &Names, bytes: &'a [u8]) -> Result<(Leaf, &'a [u8]), Halt>
+    ensures { IsExact (λ x. (x.0, x.1.now)) halt_cause result (goto_at (names_in names.now) bytes.now) }
 {
-    let rest = word(Word::Row, bytes)?;
-    let (row, rest) = number(u32::MAX, Expected::Number, rest)?;
+    let (row, rest) = target_here(names, unblank(bytes))?;
     Ok((Leaf::Goto { row }, rest))
 }
 
@@ -75,12 +107,12 @@ fn trap(bytes: &[u8]) -> Result<(Leaf, &[u8]), Halt>
 
 /// A leaf; anything else is no part of a row.
 #[tactic(auto, unfolding(crate::specs::Parts::leaf_here))]
-fn leaf_here(bytes: &[u8]) -> Result<(Leaf, &[u8]), Halt>
-    ensures { IsExact (λ x. (x.0, x.1.now)) halt_cause result (leaf_here bytes.now) }
+fn leaf_here<'a>(names: &Names, bytes: &'a [u8]) -> Result<(Leaf, &'a [u8]), Halt>
+    ensures { IsExact (λ x. (x.0, x.1.now)) halt_cause result (leaf_here (names_in names.now) bytes.now) }
 {
     let rest = after_run(Class::Letter, bytes);
     if is_next(Word::Goto, bytes) {
-        return goto(rest);
+        return goto(names, rest);
     }
     if is_next(Word::Stop, bytes) {
         return Ok((Leaf::Stop, rest));
@@ -91,10 +123,10 @@ fn leaf_here(bytes: &[u8]) -> Result<(Leaf, &[u8]), Halt>
     Err(unexpected(bytes, Expected::Part))
 }
 
-/// A part of a row.
+/// A part of a row, by the names of the rows.
 #[tactic(auto, unfolding(crate::specs::Parts::part_here))]
-pub fn part_here(bytes: &[u8]) -> Result<(Part, &[u8]), Halt>
-    ensures read { IsExact (λ x. (x.0, x.1.now)) halt_cause result (part_here bytes.now) }
+pub fn part_here<'a>(names: &Names, bytes: &'a [u8]) -> Result<(Part, &'a [u8]), Halt>
+    ensures read { IsExact (λ x. (x.0, x.1.now)) halt_cause result (part_here (names_in names.now) bytes.now) }
     ensures bound { IfOk result (λ x. IsBytePart x.0) }
 {
     if is_next(Word::R, bytes) {
@@ -112,6 +144,6 @@ pub fn part_here(bytes: &[u8]) -> Result<(Part, &[u8]), Halt>
     if is_next(Word::If, bytes) {
         return test(after_run(Class::Letter, bytes));
     }
-    let (leaf, rest) = leaf_here(bytes)?;
+    let (leaf, rest) = leaf_here(names, bytes)?;
     Ok((Part::Leaf(leaf), rest))
 }

@@ -52,15 +52,15 @@ fn push_operand(out: &mut Vec<u8>, operand: Operand) -> Result<(), AllocError>
 /// Two operands after the bytes in front of them.
 fn push_operands(
     out: &mut Vec<u8>,
-    front: &[u8],
+    opening: &[u8],
     first: Operand,
     second: Operand,
 ) -> Result<(), AllocError>
     requires first { IsByteOperand first }
     requires second { IsByteOperand second }
-    ensures { OnOk result (out.new.items ≡ out.old.items ++ (front.now ++ (operand_text first ++ operand_text second))) }
+    ensures { OnOk result (out.new.items ≡ out.old.items ++ (opening.now ++ (operand_text first ++ operand_text second))) }
 {
-    out.extend_from_slice(front)?;
+    out.extend_from_slice(opening)?;
     push_operand(out, first)?;
     push_operand(out, second)
 }

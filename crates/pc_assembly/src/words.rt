@@ -4,7 +4,7 @@
 ghost use Rattle.std.specs.Prelude.{◌≡◌, ◌≤◌, IfOk, IfSome};
 ghost use Rattle.pc_word.specs.Exact.{IsExact};
 ghost use Rattle.pc_assembly.specs.models.Causes.{halt_cause};
-ghost use Rattle.pc_assembly.specs.Words.{is_next, is_mark, is_end, word_here, word_at, mark_here, mark_at, end_at, digits_value, numeral_value, number_here, number_at, number_is};
+ghost use Rattle.pc_assembly.specs.Words.{is_next, is_alone, is_mark, is_end, word_here, word_at, mark_here, mark_at, end_at, digits_value, numeral_value, number_here, number_at, number_is};
 
 use crate::bytes::{Class, after_run, cut_run, run, unblank};
 use crate::error::{Expected, Halt, unexpected};
@@ -15,6 +15,13 @@ pub fn is_next(word: Word, bytes: &[u8]) -> bool
     ensures { result ≡ is_next word bytes.now }
 {
     word.spelling() == run(Class::Letter, bytes)
+}
+
+/// Whether a word stands at the beginning, and no number right behind it.
+pub fn is_alone(word: Word, bytes: &[u8]) -> bool
+    ensures { result ≡ is_alone word bytes.now }
+{
+    word.spelling() == run(Class::Name, bytes)
 }
 
 /// Whether a mark stands at the beginning.

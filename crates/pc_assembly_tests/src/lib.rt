@@ -4,6 +4,8 @@
 #[cfg(test)]
 mod assembler;
 #[cfg(test)]
+mod names;
+#[cfg(test)]
 mod objects;
 #[cfg(test)]
 mod refusals;

@@ -6,7 +6,7 @@ use std::alloc::Global;
 use std::test::Fail;
 
 /// Texts, each with what its line says after `pasm: `.
-static TEXTS: [(&str, &str); 26] = [
+static TEXTS: [(&str, &str); 38] = [
     ("", "listing: expected 'limits' at line 1, column 1"),
     (
         "; nothing\n\n",
@@ -107,6 +107,54 @@ static TEXTS: [(&str, &str); 26] = [
     (
         "limits of a row: 8 items, 3 tests, 2 loads and stores; arrays: a0[2]\na0[0\n",
         "listing: expected ']' at line 2, column 5",
+    ),
+    (
+        "limits of a row: 8 items, 3 tests, 2 loads and stores; arrays: none\nloop:\ngoto loop\nloop:\nstop\n",
+        "listing: expected a name that no row before has at line 4, column 1",
+    ),
+    (
+        "limits of a row: 8 items, 3 tests, 2 loads and stores; arrays: none\nrow 0\nif r0\nyes goto lop\nno goto row 0\n",
+        "listing: expected a name that a row has at line 4, column 10",
+    ),
+    (
+        "limits of a row: 8 items, 3 tests, 2 loads and stores; arrays: none\nrow 0\ngoto 1\n",
+        "listing: expected 'row' or the name of a row at line 3, column 6",
+    ),
+    (
+        "limits of a row: 8 items, 3 tests, 2 loads and stores; arrays: none\nrow 0\ngoto r1\n",
+        "listing: expected 'row' or the name of a row at line 3, column 6",
+    ),
+    (
+        "limits of a row: 8 items, 3 tests, 2 loads and stores; arrays: none\nrow 0\nstop\nloop goes on\n",
+        "listing: expected a number up to 4294967295 at line 4, column 6",
+    ),
+    (
+        "limits of a row: 8 items, 3 tests, 2 loads and stores; arrays: none\nrow 0\nstop\nagain\nstop\n",
+        "listing: expected ':' at line 4, column 6",
+    ),
+    (
+        "limits of a row: 8 items, 3 tests, 2 loads and stores; arrays: none\nrow 0\nstop\n| stop2:\n",
+        "listing: expected 'row' or the name of a row at line 4, column 3",
+    ),
+    (
+        "limits of a row: 8 items, 3 tests, 2 loads and stores; arrays: none\nrow2:\nstop\n",
+        "listing: expected the number of the next row at line 2, column 4",
+    ),
+    (
+        "limits of a row: 8 items, 3 tests, 2 loads and stores; arrays: none\nstart: 1 of 8\n",
+        "listing: expected 'items' at line 2, column 14",
+    ),
+    (
+        "limits of a row: 8 items, 3 tests, 2 loads and stores; arrays: none\nrow 0\nstop\nloop 1: plain, rows 2 of 3\nloop2: plain, rows 2 of 3\n",
+        "listing: expected 'loop' at line 5, column 1",
+    ),
+    (
+        "limits of a row: 8 items, 3 tests, 2 loads and stores; arrays: none\n",
+        "listing: expected 'row' or the name of a row at line 2, column 1",
+    ),
+    (
+        "limits of a row: 8 items, 3 tests, 2 loads and stores; arrays: none\nrow 0\ngoto a1b\na1b:\nstop\n",
+        "listing: expected 'row' or the name of a row at line 3, column 6",
     ),
 ];
 

@@ -2,7 +2,7 @@ use Rattle.std.proofs.Common.{◌≡◌, ◌-◌, ℤ, List, length, IfOk, rules
 use Rattle.std.specs.Vec.{vec_len}
 use Rattle.pc_assembly.specs.Assembled.{initial_from}
 use Rattle.pc_assembly.proofs.Initial.{initial_step}
-use Rattle.pc_assembly.proofs.front.+initial_from.Goals as goal
+use Rattle.pc_assembly.proofs.header.+initial_from.Goals as goal
 
 pub returns : goal.returns
 returns t c =

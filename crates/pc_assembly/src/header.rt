@@ -5,7 +5,7 @@ ghost use Rattle.std.specs.List.{flat_map};
 ghost use Rattle.pc_word.specs.Data.{has_no_data};
 ghost use Rattle.pc_object.specs.ObjectText.{u32_text, version_text, data_text, storage_text, fits_ptv1, version_for, word_text};
 ghost use Rattle.pc_assembly.specs.models.Headers.{header_of};
-ghost use Rattle.pc_assembly.specs.Assembled.{content_words, array_words, initial_from, front_with, front_bytes};
+ghost use Rattle.pc_assembly.specs.Assembled.{content_words, array_words, initial_from, header_with, header_bytes};
 
 use crate::error::ListingError;
 use crate::limits::Header;
@@ -154,14 +154,14 @@ fn initial_from(
 }
 
 /// The header of an object whose arrays begin with these words.
-fn front_with(
+fn header_with(
     alloc: Global,
     header: &Header,
     initial: &[WordList],
     rows: u32,
 ) -> Result<Vec<u8>, ListingError>
     requires { length header.now.arrays.items ≤ 255 }
-    ensures text { IfOk result (λ bytes. bytes.items ≡ front_with (header_of header.now) initial.now rows) }
+    ensures text { IfOk result (λ bytes. bytes.items ≡ header_with (header_of header.now) initial.now rows) }
     ensures memory { IfErr result (λ error. error ≡ ListingError.Memory) }
 {
     let mut out = Vec::new(alloc);
@@ -180,17 +180,17 @@ fn front_with(
 }
 
 /// The header of the object that a listing stands for.
-#[tactic(auto, unfolding(crate::specs::Assembled::front_bytes))]
-pub fn front(
+#[tactic(auto, unfolding(crate::specs::Assembled::header_bytes))]
+pub fn object_header(
     alloc: Global,
     header: &Header,
     lines: &[Line],
     rows: u32,
 ) -> Result<Vec<u8>, ListingError>
     requires { length header.now.arrays.items ≤ 255 }
-    ensures text { IfOk result (λ bytes. bytes.items ≡ front_bytes (header_of header.now) lines.now rows) }
+    ensures text { IfOk result (λ bytes. bytes.items ≡ header_bytes (header_of header.now) lines.now rows) }
     ensures memory { IfErr result (λ error. error ≡ ListingError.Memory) }
 {
     let initial = initial_from(alloc, header.arrays.len(), Vec::new(alloc), lines)?;
-    front_with(alloc, header, initial.as_slice(), rows)
+    header_with(alloc, header, initial.as_slice(), rows)
 }
