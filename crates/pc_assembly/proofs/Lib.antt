@@ -9,7 +9,9 @@ mod ReadHeadings
 mod ReadData
 mod ReadNotes
 mod ReadLimits
+mod NameLaws
 mod ReadNames
+mod NamedLines
 mod ReadListing
 mod ReadText
 mod ReadBytes

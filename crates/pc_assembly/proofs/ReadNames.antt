@@ -1,17 +1,16 @@
 -- A name of a row is read as the row's number.
-use Rattle.std.proofs.Common.{ℕ, ◌^◌, ◌<◌, ◌≤◌, ◌≡◌, Bool, true, false, not, ◌&&◌, ◌||◌, arith, nat_eq, nat_lt, one-add}
+use Rattle.std.proofs.Common.{ℕ, ◌^◌, ◌<◌, ◌≤◌, ◌≡◌, Bool, true, false, arith, nat_eq, nat_lt, one-add}
 use Rattle.std.proofs.Common.{List, [], ◌∷◌, ◌++◌, refl, ap, codes, decimal, Some, Ok}
 use Rattle.std.specs.List.{prefix_len, AllByRecursion}
 use Rattle.std.proofs.lemmas.Bool.Decides.{nat_tests}
 use Rattle.pc_assembly.specs.declared.bytes.Class.TheVariants as class
-use Rattle.pc_assembly.specs.declared.spelling.Word.TheVariants as word
 use Rattle.pc_assembly.specs.declared.error.Expected.TheVariants as expect
-use Rattle.pc_assembly.specs.Bytes.{is_in, is_blank, is_letter, is_digit, run, after_run}
-use Rattle.pc_assembly.specs.Words.{is_next}
+use Rattle.pc_assembly.specs.Bytes.{is_in, is_letter, is_digit, run, after_run}
 use Rattle.pc_assembly.specs.Names.{Names, most_row, is_name, name_here, row_named}
 use Rattle.pc_assembly.specs.Parts.{numbered_row, named_row, target_here, goto_at}
 use Rattle.pc_assembly.specs.Lines.{numbered_at, named_here, row_here, row_line, usage_here}
 use Rattle.pc_assembly.specs.Laws.{IsName}
+use Rattle.pc_assembly.proofs.NameLaws.{name_is_free, unblank_name}
 use Rattle.pc_assembly.proofs.ReadNumbers.{decimal_begins, no_blanks}
 use Rattle.pc_assembly.proofs.ReadParts.{NoDigit}
 use Rattle.pc_assembly.proofs.ReadHeadings.{number_behind, due_read}
@@ -68,17 +67,6 @@ unfolding is_name
 name_goes_on [] rest h ends = cc
 name_goes_on (byte ∷ name) rest h ends = rw (same_letters (byte ∷ name) rest (ends_letters rest ends)) h
 
-third : (letter a b c others : Bool) → letter && not (a || (b || (c || others))) ≡ true → c ≡ false
-third letter a b false others h = refl
-third false a b true others h = cc
-third true false false true others h = cc
-third true false true true others h = cc
-third true true b true others h = cc
-
-no_row_next : (bytes : List ℕ) → is_name bytes ≡ true → is_next word.Row bytes ≡ false
-unfolding is_name
-no_row_next bytes h = third _ (is_next word.R bytes) (is_next word.A bytes) (is_next word.Row bytes) _ h
-
 name_read : (name rest : List ℕ) → IsName name → Ends rest → name_here (name ++ rest) ≡ Ok (name, rest)
 unfolding name_here
 name_read name rest is ends =
@@ -87,27 +75,17 @@ name_read name rest is ends =
 
 -- ---- gotos
 
-first_of : (a b : Bool) → a && b ≡ true → a ≡ true
-first_of true b h = refl
-first_of false b h = h
-
-letter_no_blank : (byte : ℕ) → is_letter byte ≡ true → is_blank byte ≡ false
-letter_no_blank byte h = grind (arith, nat_tests)
-
-unblanked : (name rest : List ℕ) → is_name name ≡ true → prefix_len (is_in class.Blank) (name ++ rest) ≡ 0
-unfolding is_name
-unblanked [] rest h = cc
-unblanked (byte ∷ name) rest h = rw (letter_no_blank byte (first_of (is_letter byte) _ h)) refl
-
 pub goto_read_by_name : (names : Names) (name rest : List ℕ) (row : ℕ) → IsName name → Ends rest → row_named names name ≡ Some row
     → row < 2 ^ 32
     → goto_at names (codes " " ++ (name ++ rest)) ≡ goto_at names (codes " row " ++ (decimal row ++ rest))
 unfolding goto_at target_here named_row numbered_row
 goto_read_by_name names name rest row is ends found small =
     let digits = ends_digits rest ends in
+    let goes_on = name_goes_on name rest is.0 ends in
+    let free = name_is_free (name ++ rest) goes_on in
     rw (
-      unblanked name rest is.0,
-      no_row_next (name ++ rest) (name_goes_on name rest is.0 ends),
+      unblank_name (name ++ rest) goes_on,
+      free.row,
       name_read name rest is ends,
       found,
       number_behind 4294967295 row expect.Number rest (omega (arith, small)) (omega (arith, small)) digits,
@@ -124,10 +102,11 @@ unfolding row_line row_here named_here numbered_at usage_here
 row_read_by_name names name rest due is found small =
     let fits : due < 2 ^ 64 = omega (arith, small) in
     let behind = codes ":" ++ rest in
+    let free = name_is_free (name ++ behind) (name_goes_on name behind is.0 refl) in
     let within : nat_lt most_row due ≡ false = grind (arith, nat_tests, small) in
     rw (
       within,
-      no_row_next (name ++ behind) (name_goes_on name behind is.0 refl),
+      free.row,
       name_read name behind is refl,
       found,
       same_row due,

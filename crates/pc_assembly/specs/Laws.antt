@@ -23,7 +23,7 @@ use Rattle.pc_assembly.specs.declared.line.Content.{Content}
 use Rattle.pc_assembly.specs.declared.line.Content.TheVariants as content
 use Rattle.pc_assembly.specs.Bytes.{is_in, after_run}
 use Rattle.pc_assembly.specs.Words.{is_end}
-use Rattle.pc_assembly.specs.Names.{Names, most_row, is_name, row_named}
+use Rattle.pc_assembly.specs.Names.{Names, most_row, is_name, row_named, is_named}
 use Rattle.pc_assembly.specs.Parts.{goto_at, part_here}
 use Rattle.pc_assembly.specs.Lines.{row_line, line_here}
 use Rattle.pc_assembly.specs.Object.{listing_reading}
@@ -108,6 +108,11 @@ GotosReadByName = (names : Names) (name rest : List ℕ) (row : ℕ) → IsName 
 abbrev pub RowsReadByName : Type 0
 RowsReadByName = (names : Names) (name rest : List ℕ) (due : ℕ) → IsName name → row_named names name ≡ Some due → due ≤ most_row
     → row_line names due (name ++ (codes ":" ++ rest)) ≡ row_line names due (codes "row " ++ (decimal due ++ (codes ":" ++ rest)))
+
+-- a line that gives a name begins a row, wherever it stands in a listing: so the names of the rows are those of the rows that are read
+abbrev pub NamesAreOfRows : Type 0
+NamesAreOfRows = (names : Names) (lengths : List ℕ) (due next : Stage) (bytes : List ℕ) (told : Content) → is_named bytes ≡ true
+    → line_here names lengths due bytes ≡ Ok (next, told) → told ≡ content.Row
 
 -- ---- the whole
 
