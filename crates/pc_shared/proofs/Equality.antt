@@ -49,7 +49,7 @@ homes_tell (x ∷ xs) (y ∷ ys) e =
     λ i. home_tells x y h.0 i ∷ homes_tell xs ys h.1 i
 homes_tell _ _ e = absurd (cc)
 
-item_tells : (x y : Item) → item_eq.eq-value.it x y ≡ true → x ≡ y
+pub item_tells : (x y : Item) → item_eq.eq-value.it x y ≡ true → x ≡ y
 item_tells (Bin op d l r) (Bin op' d' l' r') e =
     let h = both _ _ e in
     let k = both _ _ h.1 in

@@ -6,3 +6,9 @@ pub mod Copies
 pub mod Alone
 pub mod Meaning
 pub mod Equality
+pub mod Giving
+pub mod Renamed
+pub mod RenamedScopes
+pub mod GivenNames
+pub mod MergedWindows
+pub mod PlainWindows

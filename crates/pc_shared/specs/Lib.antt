@@ -1,3 +1,4 @@
+pub mod models
 pub mod NodeTree
 pub mod Links
 pub mod Unfolding
@@ -5,3 +6,4 @@ pub mod Owning
 pub mod Places
 pub mod StandsOnce
 pub mod SharedWindows
+pub mod Merging

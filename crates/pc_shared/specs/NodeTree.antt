@@ -1,5 +1,5 @@
 -- Trees of windows as plain data, with the leaves at which their nodes end.
-use Rattle.std.specs.Prelude.{ℕ, suc, ◌+◌, List}
+use Rattle.std.specs.Prelude.{ℕ, suc, ◌+◌, Bool, true, false, List}
 use Rattle.pc_word.specs.declared.item.Item.{Item}
 use Rattle.pc_word.specs.declared.item.Operand.{Operand}
 use Rattle.pc_word.specs.declared.item.TrapKind.{TrapKind}
@@ -52,3 +52,24 @@ count_places (Leading below) = suc (count_places below)
 count_places (Leaving region tag stub_homes) = 1
 count_places Ending = 1
 count_places (Trapping kind line) = 1
+
+-- each item and each test is a node of its own: at the root of a node, or below an item or test
+abbrev pub AreSingle : (at_root : Bool) → NodeTree → Type 0
+AreSingle true (Doing tag origin item rest) = AreSingle false rest
+AreSingle true (Asking tag origin on on_yes on_no) = AreSingle false on_yes × AreSingle false on_no
+AreSingle true (Leading below) = ⊥
+AreSingle false (Doing tag origin item rest) = ⊥
+AreSingle false (Asking tag origin on on_yes on_no) = ⊥
+AreSingle false (Leading below) = AreSingle true below
+AreSingle at_root (Leaving region tag stub_homes) = Unit {0}
+AreSingle at_root Ending = Unit {0}
+AreSingle at_root (Trapping kind line) = Unit {0}
+
+-- so it is behind the root node
+abbrev pub AreSingleBehind : NodeTree → Type 0
+AreSingleBehind (Doing tag origin item rest) = AreSingleBehind rest
+AreSingleBehind (Asking tag origin on on_yes on_no) = AreSingleBehind on_yes × AreSingleBehind on_no
+AreSingleBehind (Leading below) = AreSingle true below
+AreSingleBehind (Leaving region tag stub_homes) = Unit {0}
+AreSingleBehind Ending = Unit {0}
+AreSingleBehind (Trapping kind line) = Unit {0}

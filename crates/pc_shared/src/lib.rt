@@ -4,12 +4,15 @@
 
 mod digest;
 mod keeping;
+mod merging;
 mod node;
 mod owning;
 mod reading;
+mod renaming;
 mod store;
 mod window;
 
+pub use merging::{Definition, Given, merged};
 pub use node::SharedNode;
 pub use store::Store;
 pub use window::SharedWindow;

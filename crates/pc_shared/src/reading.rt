@@ -1,5 +1,5 @@
 //! Walks of what a number unfolds to, place by place.
-ghost use Rattle.std.specs.Prelude.{◌≡◌, ◌<◌, ◌^◌, IfOk};
+ghost use Rattle.std.specs.Prelude.{◌≡◌, ◌<◌, ◌^◌, IfOk, IfSome};
 ghost use Rattle.pc_window.specs.Tree.{tree_size};
 ghost use Rattle.pc_shared.specs.NodeTree.{nodes_in, plain_tree, count_places};
 ghost use Rattle.pc_shared.specs.Unfolding.{tree_at, Stands};
@@ -10,6 +10,9 @@ use pc_arena::NodeId;
 use pc_window::{HomeList, WindowTree};
 use pc_word::OutOfMemory;
 use std::alloc::Global;
+
+/// From this number on there are no places.
+const MOST_PLACES: u32 = 1 << 31;
 
 /// The number of items and tests of the tree of a number, no deeper than so many nodes.
 #[tactic(auto, using(crate::proofs::Standing::standing))]
@@ -105,15 +108,29 @@ pub(crate) fn owned_tree(
     }
 }
 
-/// The number of places of a tree that owns its nodes.
-pub(crate) fn count_owned(tree: &WindowTree) -> u32
-    requires { count_places (nodes_in tree.now) < 2 ^ 31 }
-    ensures { result ≡ count_places (nodes_in tree.now) }
+/// The number of places of a tree that owns its nodes, unless it is 2^32 or more.
+fn count_owned(tree: &WindowTree) -> Option<u32>
+    ensures { IfSome result (λ count. count ≡ count_places (nodes_in tree.now)) }
 {
     match tree {
-        WindowTree::Step { rest, .. } => 1 + count_owned(rest),
-        WindowTree::Test { yes, no, .. } => 1 + count_owned(yes) + count_owned(no),
-        WindowTree::Node { below } => 1 + count_owned(below),
-        WindowTree::Exit { .. } | WindowTree::Stop | WindowTree::Trap { .. } => 1,
+        WindowTree::Step { rest, .. } => count_owned(rest)?.checked_add(1),
+        WindowTree::Test { yes, no, .. } => {
+            let on_yes = count_owned(yes)?;
+            let on_no = count_owned(no)?;
+            on_yes.checked_add(on_no)?.checked_add(1)
+        }
+        WindowTree::Node { below } => count_owned(below)?.checked_add(1),
+        WindowTree::Exit { .. } | WindowTree::Stop | WindowTree::Trap { .. } => Some(1),
+    }
+}
+
+/// The number of places of a tree that owns its nodes, where it is below 2^31.
+pub(crate) fn count_few(tree: &WindowTree) -> Result<u32, OutOfMemory>
+    ensures count { IfOk result (λ count. count ≡ count_places (nodes_in tree.now)) }
+    ensures few { IfOk result (λ count. count < 2 ^ 31) }
+{
+    match count_owned(tree) {
+        Some(count) if count < MOST_PLACES => Ok(count),
+        _ => Err(OutOfMemory::Memory),
     }
 }

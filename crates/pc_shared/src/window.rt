@@ -5,12 +5,13 @@ ghost use Rattle.pc_shared.specs.Unfolding.{tree_at, Stands};
 ghost use Rattle.pc_shared.specs.StandsOnce.{stands_once};
 
 use crate::keeping::Keeper;
+use crate::merging::merged;
 use crate::node::SharedNode;
 use crate::owning::own_link;
-use crate::reading::{count_owned, owned_tree, places_at, size_at};
+use crate::reading::{count_few, owned_tree, places_at, size_at};
 use crate::store::Store;
 use pc_arena::NodeId;
-use pc_window::{NameTable, Window};
+use pc_window::{FormList, NameTable, Window};
 use pc_word::{Limits, OutOfMemory};
 use std::alloc::Global;
 
@@ -31,7 +32,7 @@ pub struct SharedWindow {
 }
 
 impl SharedWindow {
-    ghost use Rattle.std.specs.Prelude.{◌≡◌, ◌≤◌, ℕ, Some, IsSome, IfSome, IfOk};
+    ghost use Rattle.std.specs.Prelude.{◌≡◌, ◌≤◌, ℕ, Some, IsSome, IfSome, Ok, Err, IfOk, IfErr};
     ghost use Rattle.std.specs.FinMap as map;
     ghost use Rattle.pc_arena.specs.Held.{value_at};
     ghost use Rattle.pc_window.specs.Tree.{whole, tree_size};
@@ -41,13 +42,13 @@ impl SharedWindow {
     ghost use Rattle.pc_shared.specs.Unfolding.{Carries};
     ghost use Rattle.pc_shared.specs.Owning.{Owns};
     ghost use Rattle.pc_shared.specs.Places.{places_of};
-    ghost use Rattle.pc_shared.specs.SharedWindows.{shared_tree, shared_window, IsNode};
+    ghost use Rattle.pc_shared.specs.SharedWindows.{shared_tree, shared_window, IsNode, IsPlain, Stepped, Answered};
+    ghost use Rattle.pc_window.specs.declared.window.Window.{Window as StoredWindow};
 
-    /// The window, with equal nodes kept once. `Err` comes for want of memory alone, and the window
-    /// is dropped with it.
+    /// The window, with equal nodes kept once. `Err` comes for want of memory alone, for which also
+    /// 2^31 places count, and the window is dropped with it.
     #[tactic(auto, using(crate::proofs::Meaning::meaning))]
     pub fn of_window(alloc: Global, window: Window) -> Result<SharedWindow, OutOfMemory>
-        requires { count_places (nodes_in window.tree) < 2 ^ 31 }
         ensures tree { IfOk result (λ shared. shared_tree shared ≡ nodes_in window.tree) }
         ensures window { IfOk result (λ shared. shared_window shared ≡ window_in window) }
     {
@@ -57,9 +58,9 @@ impl SharedWindow {
             limits,
             inside,
         } = window;
+        let depth = count_few(&tree)?;
         let mut keeper = Keeper::new(alloc);
         let root = keeper.keep(alloc, &tree)?;
-        let depth = count_owned(&tree);
         let store = keeper.into_store();
         Ok(SharedWindow {
             store,
@@ -153,5 +154,47 @@ impl SharedWindow {
     {
         let copy = own_link(&mut self.store, node, side, self.depth)?;
         Ok(copy)
+    }
+
+    /// A copy of the window, with each place a node of its own. `Err` comes for want of memory alone.
+    pub fn to_window(&self, alloc: Global) -> Result<Window, OutOfMemory>
+        ensures { IfOk result (λ window. IsPlain self.now window) }
+    {
+        let forms = FormList::from_slice(alloc, self.names.forms.as_slice())?;
+        let tree = owned_tree(alloc, &self.store, self.root, self.depth)?;
+        let names = NameTable {
+            forms,
+            next_variable: self.names.next_variable,
+        };
+        Ok(Window {
+            tree,
+            names,
+            limits: self.limits,
+            inside: self.inside,
+        })
+    }
+
+    /// The window after a step, which is a call on plain windows: opening apart, each of them passes
+    /// through here. The step is given the plain window; of what it gives, definitions that are alike
+    /// get one name, and equal nodes are kept once. This window stays as it is. What the step answers
+    /// in place of a window is handed on.
+    #[tactic(auto, using(crate::proofs::PlainWindows::single))]
+    pub fn step<E, F: FnOnce(Window) -> Result<Window, E>>(
+        &self,
+        alloc: Global,
+        step: F,
+    ) -> Result<Result<SharedWindow, E>, OutOfMemory>
+        requires { (window : StoredWindow) → IsPlain self.now window → F.pre step window }
+        ensures stepped { IfOk result (λ answer. IfOk answer (λ later. Stepped (λ before after. F.post step before (Ok after)) self.now later)) }
+        ensures refused { IfOk result (λ answer. IfErr answer (λ why. Answered (λ before. F.post step before (Err why)) self.now)) }
+    {
+        let window = self.to_window(alloc)?;
+        let later = match step(window) {
+            Ok(later) => later,
+            Err(why) => return Ok(Err(why)),
+        };
+        let merged = merged(alloc, later)?;
+        let shared = SharedWindow::of_window(alloc, merged)?;
+        Ok(Ok(shared))
     }
 }

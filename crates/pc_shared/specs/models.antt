@@ -1,0 +1,3 @@
+-- Models of private code.
+pub mod Renaming
+pub mod Merges
