@@ -257,15 +257,16 @@ module _ (forms : ℕ → Form) (next variables : ℕ) (known : ℕ → Bool) (k
       let now = now_given gives sound all refl lt unknown in
       let first = gives_later gives in
       let r = becomes more now.sound (now.one.below, still_below g.names.next m.names.next first.next pairs all) (and_dest scope item) (more_covered scope item covers) scoped.2 below.1 in
-      let after = merges_later more in record {
+      let after = merges_later more in
+      let d = definition_of g.names.forms tag origin (renamed_item pairs item) old in record {
         sound = r.sound;
         renamed = λ last later.
             let k = later_again m h last after later in
             let form = k.forms name now.one.below ∙ now.one.form in
             renamed_given e (record {
-              free = subst (λ (f : Form). FirstFree (others pairs) (record { tag = tag; origin = origin; item = (definition_of g.names.forms tag origin (renamed_item pairs item) old).item; form = f }) last.given (Some name))
+              free = subst (λ (f : Form). FirstFree (others pairs) (record { tag = tag; origin = origin; item = d.item; form = f }) last.given (Some name))
                   (sym form)
-                  (subst (λ (list : List Given). FirstFree (others pairs) (definition_of g.names.forms tag origin (renamed_item pairs item) old) list (Some name))
+                  (subst (λ (list : List Given). FirstFree (others pairs) d list (Some name))
                   (sym k.given) (still_free k.more name now.free refl));
               form = form ∙ sound.kept old lt;
               below = let a = now.one.below in let b = k.next in omega (arith, a, b);

@@ -191,7 +191,8 @@ module _ (forms : ℕ → Form) (known : ℕ → Bool) (last : Giving) where
           both_then (same_tag tag) (named_alike (pairs ++ params) name item (renamed_item pairs item) (plain_alike pairs given item h.0))
           (subst (λ (d : Option ℕ). DestsAlike maps forms last.names.forms d (dest_of (with_dest name (renamed_item pairs item)))) (sym e)
           (subst (λ (d : Option ℕ). DestsAlike maps forms last.names.forms (Some old) d) (sym some) (alike old name is.form)))
-          (subst (λ (d : Option ℕ). TreesAlike maps forms last.names.forms (defined (pairs ++ params) d (dest_of (with_dest name (renamed_item pairs item)))) (plain_tree rest) (plain_tree rest')) (sym e)
+          (subst (λ (d : Option ℕ). TreesAlike maps forms last.names.forms (defined (pairs ++ params) d (dest_of (with_dest name (renamed_item pairs item))))
+          (plain_tree rest) (plain_tree rest')) (sym e)
           (subst (λ (d : Option ℕ). TreesAlike maps forms last.names.forms (defined (pairs ++ params) (Some old) d) (plain_tree rest) (plain_tree rest')) (sym some) below))
       trees_alike (renamed_test {pairs} {tag} {origin} {on} p q) given h =
           both_either (same_tag tag) (operand_alike pairs given on h.0) (trees_alike p given h.1) (trees_alike q given h.2)

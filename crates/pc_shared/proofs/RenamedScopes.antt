@@ -136,7 +136,8 @@ module _ (forms : ℕ → Form) (known : ℕ → Bool) (last : Giving) where
   pub becomes_first : {pairs : List Pair} {t t' : NodeTree} → Becomes pairs t t' → EachDefined IsFirst last.names.forms (others pairs) (plain_tree t')
   becomes_first (renamed_plain {pairs} {tag} {origin} {item} {rest} {rest'} e r) =
       let none : dest_of (renamed_item pairs item) ≡ None = dest_kept (map_name (renamed_name pairs)) item ∙ e in
-      subst (λ (d : Option ℕ). OfDefined IsFirst last.names.forms (others pairs) tag origin (renamed_item pairs item) d × EachDefined IsFirst last.names.forms (named d (others pairs)) (plain_tree rest'))
+      subst (λ (d : Option ℕ). OfDefined IsFirst last.names.forms (others pairs) tag origin (renamed_item pairs item) d
+      × EachDefined IsFirst last.names.forms (named d (others pairs)) (plain_tree rest'))
       (sym none) (tt, becomes_first r)
   becomes_first (renamed_given {pairs} {tag} {origin} {item} {rest} {rest'} {old} {name} e is r) =
       let some : dest_of (with_dest name (renamed_item pairs item)) ≡ Some name = dest_renamed name old (map_name (renamed_name pairs)) item e in
@@ -185,12 +186,18 @@ module _ (forms : ℕ → Form) (known : ℕ → Bool) (last : Giving) where
     same_operand (Name x) h = same_forms x h
     same_operand (Lit value) h = refl
 
+    never_moved : (i j : Operand) → IsKnown known i → IsKnown known j → NeverEqual (operand_form forms i) (operand_form forms j)
+        → NeverEqual (operand_form last.names.forms i) (operand_form last.names.forms j)
+    never_moved i j p q never =
+        subst (λ (f : Form). NeverEqual f (operand_form last.names.forms j)) (sym (same_operand i p))
+        (subst (NeverEqual (operand_form forms i)) (sym (same_operand j q)) never)
+
     same_touches : (x y : Item) → ReadsKnown known x → ReadsKnown known y → NoStoreDependence forms (touch_of x) (touch_of y)
         → NoStoreDependence last.names.forms (touch_of x) (touch_of y)
-    same_touches (Load d a i) (Load d' a' i') p q h = λ e s. subst (λ (f : Form). NeverEqual f (operand_form last.names.forms i')) (sym (same_operand i p.0)) (subst (NeverEqual (operand_form forms i)) (sym (same_operand i' q.0)) (h e s))
-    same_touches (Load d a i) (Store a' i' v') p q h = λ e s. subst (λ (f : Form). NeverEqual f (operand_form last.names.forms i')) (sym (same_operand i p.0)) (subst (NeverEqual (operand_form forms i)) (sym (same_operand i' q.0)) (h e s))
-    same_touches (Store a i v) (Load d' a' i') p q h = λ e s. subst (λ (f : Form). NeverEqual f (operand_form last.names.forms i')) (sym (same_operand i p.0)) (subst (NeverEqual (operand_form forms i)) (sym (same_operand i' q.0)) (h e s))
-    same_touches (Store a i v) (Store a' i' v') p q h = λ e s. subst (λ (f : Form). NeverEqual f (operand_form last.names.forms i')) (sym (same_operand i p.0)) (subst (NeverEqual (operand_form forms i)) (sym (same_operand i' q.0)) (h e s))
+    same_touches (Load d a i) (Load d' a' i') p q h = λ e s. never_moved i i' p.0 q.0 (h e s)
+    same_touches (Load d a i) (Store a' i' v') p q h = λ e s. never_moved i i' p.0 q.0 (h e s)
+    same_touches (Store a i v) (Load d' a' i') p q h = λ e s. never_moved i i' p.0 q.0 (h e s)
+    same_touches (Store a i v) (Store a' i' v') p q h = λ e s. never_moved i i' p.0 q.0 (h e s)
     same_touches (Load d a i) (Bin op d' l' r') p q h = tt
     same_touches (Load d a i) (Copy d' f') p q h = tt
     same_touches (Load d a i) (Print v') p q h = tt
@@ -369,7 +376,8 @@ module _ (forms : ℕ → Form) (known : ℕ → Bool) (last : Giving) where
   same_variables pairs (home ∷ homes) = ap (λ (list : List ℕ). home.variable ∷ list) (same_variables pairs homes)
 
   -- arrays and stubs are there as before
-  pub parts_there : {pairs : List Pair} {t t' : NodeTree} → Becomes pairs t t' → (table : Table) (most : ℕ) → PartsAreThere table most (plain_tree t) → PartsAreThere table most (plain_tree t')
+  pub parts_there : {pairs : List Pair} {t t' : NodeTree} → Becomes pairs t t' → (table : Table) (most : ℕ)
+      → PartsAreThere table most (plain_tree t) → PartsAreThere table most (plain_tree t')
   parts_there (renamed_plain {pairs} {tag} {origin} {item} e r) table most h = (h.0, same_array table pairs item h.1, parts_there r table most h.2)
   parts_there (renamed_given {pairs} {tag} {origin} {item} {rest} {rest'} {old} {name} e is r) table most h =
       (h.0, named_array table name (renamed_item pairs item) (same_array table pairs item h.1), parts_there r table most h.2)

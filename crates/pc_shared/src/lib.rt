@@ -12,7 +12,7 @@ mod renaming;
 mod store;
 mod window;
 
-pub use merging::{Definition, Given, merged};
+pub use merging::{Definition, merged};
 pub use node::SharedNode;
 pub use store::Store;
 pub use window::SharedWindow;

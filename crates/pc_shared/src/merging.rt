@@ -20,7 +20,7 @@ const MOST_NAMES: usize = 1 << 31;
 
 /// What defines a name: an item but for the name that it writes, with its tag and origin, and the name's
 /// form.
-#[derive(Clone, Copy, Debug)]
+#[derive(Clone, Copy)]
 pub struct Definition {
     pub tag: u32,
     pub origin: u32,
@@ -30,10 +30,10 @@ pub struct Definition {
 }
 
 /// A name that was given to what is defined so.
-#[derive(Clone, Copy, Debug)]
-pub struct Given {
-    pub definition: Definition,
-    pub name: u32,
+#[derive(Clone, Copy)]
+pub(crate) struct Given {
+    pub(crate) definition: Definition,
+    pub(crate) name: u32,
 }
 
 /// The names that were given so far, and the forms of all names.

@@ -4,3 +4,4 @@ pub mod SumWindows
 pub mod LoopingKept
 pub mod EchoingKept
 pub mod ExchangingKept
+pub mod SharedSteps

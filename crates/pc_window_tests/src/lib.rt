@@ -19,6 +19,8 @@ mod renumber;
 #[cfg(test)]
 mod shared;
 #[cfg(test)]
+mod sharing;
+#[cfg(test)]
 mod tables;
 #[cfg(test)]
 mod unwind;

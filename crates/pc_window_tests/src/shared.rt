@@ -1,9 +1,9 @@
 //! Windows whose equal parts are kept once.
-ghost use Rattle.std.specs.Prelude.{◌≡◌, ◌<◌, ◌^◌, IfOk};
+ghost use Rattle.std.specs.Prelude.{◌≡◌, IfOk};
 ghost use Rattle.pc_window.specs.StoredWindow.{window_in};
 ghost use Rattle.pc_table.specs.StoredTable.{table_of};
 ghost use Rattle.pc_unwind.specs.Unwindable.{CanUnwind};
-ghost use Rattle.pc_shared.specs.NodeTree.{nodes_in, count_places};
+ghost use Rattle.pc_shared.specs.NodeTree.{nodes_in};
 ghost use Rattle.pc_window_tests.specs.Looping.{looping_table};
 ghost use Rattle.pc_window_tests.specs.Twins.{printing_side, twins};
 
@@ -38,9 +38,7 @@ fn own_first(shared: &mut SharedWindow) -> Result<bool, WindowError> {
 }
 
 /// The counts of a window.
-fn count(alloc: Global, window: Window) -> Result<Counts, WindowError>
-    requires { count_places (nodes_in window.tree) < 2 ^ 31 }
-{
+fn count(alloc: Global, window: Window) -> Result<Counts, WindowError> {
     let mut shared = SharedWindow::of_window(alloc, window)?;
     let kept = shared.kept();
     own_first(&mut shared)?;
@@ -109,7 +107,6 @@ fn counts_of_twins(alloc: Global) -> Result<Counts, WindowError> {
 }
 
 /// The counts of a window that was unwound with a window number.
-#[tactic(auto, using(pc_shared::proofs::Meaning::counted))]
 fn counts_unwound(
     alloc: Global,
     table: &RegionTable,
