@@ -31,7 +31,8 @@ const PAST_NO: [bool; 15] = [
 ];
 
 /// What is counted of the loop's window: places, nodes that are kept where names are not merged, where
-/// they are, and once a leaf has a node of its own below it; and whether both sides lead to that leaf.
+/// they are, and once a leaf has a node of its own below it; whether both sides lead to that leaf; and
+/// nodes that are kept after one step more, which merges names again.
 #[derive(Clone, Copy, Debug, PartialEq, Eq)]
 struct Kept {
     places: u32,
@@ -39,6 +40,7 @@ struct Kept {
     merged: usize,
     owned: usize,
     meets: bool,
+    again: usize,
 }
 
 /// The regions of a source.
@@ -104,6 +106,12 @@ fn unwound(alloc: Global, table: &RegionTable, region: u32) -> Result<Window, Wi
     unwind(alloc, window, table, 2)
 }
 
+/// A shared window after a step that merges names again.
+fn merged_again(alloc: Global, shared: &SharedWindow) -> Result<SharedWindow, WindowError> {
+    let answer = shared.step(alloc, |window| merged(alloc, window))?;
+    answer
+}
+
 /// What is counted of such a window.
 fn kept_of(alloc: Global, table: &RegionTable, region: u32) -> Result<Kept, WindowError>
     requires { region < length table.now.regions }
@@ -115,12 +123,14 @@ fn kept_of(alloc: Global, table: &RegionTable, region: u32) -> Result<Kept, Wind
     let mut shared = SharedWindow::of_window(alloc, window)?;
     let kept = shared.kept();
     let meets = own_below(&mut shared)?;
+    let again = merged_again(alloc, &shared)?;
     Ok(Kept {
         places: shared.places(),
         unmerged: plain.kept(),
         merged: kept,
         owned: shared.kept(),
         meets,
+        again: again.kept(),
     })
 }
 
@@ -135,7 +145,7 @@ fn kept_of_source(alloc: Global, text: &[u8]) -> Result<Option<Kept>, Fail> {
 
 /// Behind the next turn's test, whose own name takes a form variable, the sides of the source's test are
 /// equal once names are merged. They are kept once then, and so is the leaf that leads there; where it
-/// gets a node of its own below it, that is one node more.
+/// gets a node of its own below it, that is one node more. A step brings equal nodes together again.
 #[test]
 fn sides_that_meet_are_kept_once(rt: HostRuntime) -> Result<(), Fail> {
     let kept = kept_of_source(rt.alloc(), PRINTING)?;
@@ -146,7 +156,8 @@ fn sides_that_meet_are_kept_once(rt: HostRuntime) -> Result<(), Fail> {
                 unmerged: 58,
                 merged: 37,
                 owned: 38,
-                meets: true
+                meets: true,
+                again: 37
             })
     );
     Ok(())
