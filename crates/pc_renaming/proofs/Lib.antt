@@ -4,3 +4,7 @@ pub mod Steps
 pub mod Form
 pub mod Checked
 pub mod Tables
+pub mod Choices
+pub mod Wanting
+pub mod Going
+pub mod Within

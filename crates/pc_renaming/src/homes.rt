@@ -1,5 +1,8 @@
 //! Which registers have the values of registers of the code before when a row begins.
-ghost use Rattle.std.specs.Prelude.{◌≡◌, ◌<◌, ℕ, Some, true};
+ghost use Rattle.std.specs.Prelude.{◌≡◌, ◌<◌, ◌↔◌, ℕ, Some, true};
+ghost use Rattle.pc_word.specs.declared.item.Item.TheVariants as Item;
+ghost use Rattle.pc_word.specs.declared.item.OpCode as op;
+ghost use Rattle.pc_word.specs.declared.item.Operand as operand;
 ghost use Rattle.pc_renaming.specs.Witness.{home_of, no_home, with_home};
 ghost use Rattle.pc_renaming.specs.models.Tables.{homes_in};
 ghost use Rattle.pc_renaming.specs.ItemRenames.{OperandRenames, ItemRenames};
@@ -52,7 +55,7 @@ impl Homes {
     /// Whether an operand reads the same as one of the code before, of so many registers.
     #[tactic(auto, using(crate::proofs::Checked::operand_laws))]
     pub(crate) fn renames_operand(&self, registers: u16, old: Operand, new: Operand) -> bool
-        ensures { result ≡ true → OperandRenames registers (homes_in self.now) old new }
+        ensures { (result ≡ true) ↔ OperandRenames registers (homes_in self.now) old new }
     {
         match old {
             Operand::Name(register) => match new {
@@ -66,21 +69,44 @@ impl Homes {
         }
     }
 
-    /// Whether a register, which is one of so many, has the value of a register of the code before.
-    fn is_there(&self, registers: u16, register: u32, place: u32) -> bool
-        ensures has { result ≡ true → homes_in self.now register ≡ Some place }
-        ensures below { result ≡ true → place < registers }
+    /// Whether a register has the value of a register of the code before.
+    pub(crate) fn is_at(&self, register: u32, place: u32) -> bool
+        ensures { (result ≡ true) ↔ (homes_in self.now register ≡ Some place) }
     {
         match self.place(register) {
-            Some(home) => home as u32 == place && place < registers as u32,
+            Some(home) => home as u32 == place,
             None => false,
         }
+    }
+
+    /// Whether a register, which is one of so many, has the value of a register of the code before.
+    fn is_there(&self, registers: u16, register: u32, place: u32) -> bool
+        ensures { (result ≡ true) ↔ ((homes_in self.now register ≡ Some place) × (place < registers)) }
+    {
+        if registers as u32 <= place {
+            return false;
+        }
+        self.is_at(register, place)
+    }
+
+    /// Whether a register has the value of some register of the code before.
+    #[tactic(auto, using(crate::proofs::Wanting::home_laws))]
+    pub(crate) fn has(&self, place: u32) -> bool
+        ensures { (result ≡ true) ↔ ((register : ℕ) × (homes_in self.now register ≡ Some place)) }
+    {
+        for register in 0..MOST_REGISTERS as u32 {
+            if self.is_at(register, place) {
+                return true;
+            }
+        }
+        false
     }
 
     /// Whether an item does the same as a binary one of the code before, whatever it writes.
     #[tactic(auto, using(crate::proofs::Checked::item_laws))]
     fn renames_bin(&self, registers: u16, old: Item, new: Item) -> bool
-        ensures { result ≡ true → ItemRenames registers (homes_in self.now) old new }
+        ensures does { result ≡ true → ItemRenames registers (homes_in self.now) old new }
+        ensures exact { (op : op.OpCode) (dest : ℕ) (left right : operand.Operand) → old ≡ Item.Bin op dest left right → ItemRenames registers (homes_in self.now) old new → result ≡ true }
     {
         match old {
             Item::Bin {
@@ -108,7 +134,8 @@ impl Homes {
     /// Whether an item does the same as a store of the code before.
     #[tactic(auto, using(crate::proofs::Checked::item_laws))]
     fn renames_store(&self, registers: u16, old: Item, new: Item) -> bool
-        ensures { result ≡ true → ItemRenames registers (homes_in self.now) old new }
+        ensures does { result ≡ true → ItemRenames registers (homes_in self.now) old new }
+        ensures exact { (array : ℕ) (index value : operand.Operand) → old ≡ Item.Store array index value → ItemRenames registers (homes_in self.now) old new → result ≡ true }
     {
         match old {
             Item::Store {
@@ -134,7 +161,7 @@ impl Homes {
     /// Whether an item does the same as one of the code before, whatever it writes.
     #[tactic(auto, using(crate::proofs::Checked::item_laws))]
     pub(crate) fn renames_item(&self, registers: u16, old: Item, new: Item) -> bool
-        ensures { result ≡ true → ItemRenames registers (homes_in self.now) old new }
+        ensures { (result ≡ true) ↔ ItemRenames registers (homes_in self.now) old new }
     {
         match old {
             Item::Bin { .. } => self.renames_bin(registers, old, new),

@@ -1,9 +1,11 @@
 //! Laws of renamed codes. The function here does nothing: its contract is the laws, and that it is
 //! proved is all that it is for.
-ghost use Rattle.pc_renaming.specs.Laws.{RenamingKeepsTheRun, RenamingKeepsForm};
+ghost use Rattle.pc_renaming.specs.Laws.{RenamingKeepsTheRun, RenamingKeepsForm, FormKeepsRegisters};
 
-/// A renamed code runs as the code before, and is well formed where that was.
+/// A renamed code runs as the code before, and is well formed where that was; and a well-formed code writes none but the
+/// registers of which `is_renaming` is exact.
 pub fn laws_of_renaming()
     ensures runs { RenamingKeepsTheRun }
     ensures form { RenamingKeepsForm }
+    ensures registers { FormKeepsRegisters }
 {}

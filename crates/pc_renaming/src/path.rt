@@ -1,12 +1,12 @@
 //! What is known on the way down two rows of which one does the other.
-ghost use Rattle.std.specs.Prelude.{◌≡◌, ◌<◌, ℕ, Some, None, true, false, OnSome, IfSome};
+ghost use Rattle.std.specs.Prelude.{◌≡◌, ◌<◌, ◌↔◌, ℕ, Some, None, true, false, IfSome, IsSome};
+ghost use Rattle.pc_machine.specs.Registers.{most_registers};
 ghost use Rattle.pc_renaming.specs.declared.kept.Kept.TheVariants as Kept;
 ghost use Rattle.pc_renaming.specs.Renaming.{all_before, none_written, with_kept, with_written, StandsIn};
 ghost use Rattle.pc_renaming.specs.models.Tables.{homes_in, kept_in, written_in};
 
 use crate::homes::Homes;
 use crate::kept::Kept;
-use crate::witness::Holding;
 use pc_machine::MOST_REGISTERS;
 
 /// Where the values of registers of the code before stand, and which registers of the code after
@@ -32,6 +32,7 @@ impl Path {
     /// Whether the path has not written a register of the code before, which is there.
     pub(crate) fn is_before(&self, register: u32) -> bool
         ensures kept { result ≡ true → kept_in self.now register ≡ Kept.Before }
+        ensures so { register < most_registers → kept_in self.now register ≡ Kept.Before → result ≡ true }
     {
         match self.kept.get(register as usize) {
             Some(Kept::Before) => true,
@@ -51,6 +52,7 @@ impl Path {
     pub(crate) fn with_kept(&self, register: u32, kept: Kept) -> Option<Path>
         ensures kept { IfSome result (λ below. kept_in below ≡ with_kept register kept (kept_in self.now)) }
         ensures written { IfSome result (λ below. written_in below ≡ written_in self.now) }
+        ensures there { register < most_registers → IsSome result }
     {
         let at = register as usize;
         if MOST_REGISTERS <= at {
@@ -78,26 +80,16 @@ impl Path {
     }
 
     /// Whether a value stands so that once the row is done it is where it is to be.
-    pub(crate) fn finds(&self, homes: &Homes, holding: Holding) -> bool
-        ensures { result ≡ true → StandsIn (homes_in homes.now) (written_in self.now) holding.register holding.place (kept_in self.now holding.register) }
+    pub(crate) fn finds(&self, homes: &Homes, register: u8, place: u8) -> bool
+        ensures { (result ≡ true) ↔ StandsIn (homes_in homes.now) (written_in self.now) register place (kept_in self.now register) }
     {
-        match self.kept[holding.register as usize] {
-            Kept::Before => is_home(homes, holding) && !self.writes(holding.place as u32),
-            Kept::Was { register } => {
-                register == holding.place && !self.writes(holding.place as u32)
+        match self.kept[register as usize] {
+            Kept::Before => {
+                homes.is_at(register as u32, place as u32) && !self.writes(place as u32)
             }
-            Kept::Made { register } => register == holding.place,
+            Kept::Was { register: other } => other == place && !self.writes(place as u32),
+            Kept::Made { register: other } => other == place,
             Kept::Lost => false,
         }
-    }
-}
-
-/// Whether a register has the value that it is to have when the row begins.
-fn is_home(homes: &Homes, holding: Holding) -> bool
-    ensures { result ≡ true → homes_in homes.now holding.register ≡ Some holding.place }
-{
-    match homes.place(holding.register as u32) {
-        Some(place) => place == holding.place,
-        None => false,
     }
 }
