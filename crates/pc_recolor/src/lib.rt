@@ -17,4 +17,4 @@ mod register_set;
 mod size;
 mod webs;
 
-pub use recoloring::{is_refused, recolor_and_tighten};
+pub use recoloring::{Verdict, judge, recolor_and_tighten};

@@ -293,12 +293,22 @@ pub fn recolor_and_tighten(alloc: Global, code: Code, most: usize) -> Result<Cod
     }
 }
 
-/// Whether the checker refuses the rows that are made of a code's with each loop in so many phases, of which there are at
-/// most 8. Nothing is known of which it does: where it did, `recolor_and_tighten` would leave the code the registers that
-/// it has. `false` too where the registers do not suffice, so that nothing is made.
+/// What becomes of rows that are made of a code's with other registers.
+#[derive(Clone, Copy, Debug)]
+pub enum Verdict {
+    /// The registers do not suffice, so nothing is made.
+    NotMade,
+    /// The checker takes them.
+    Taken,
+    /// The checker refuses them: since it is exact, they do not do the code's rows as is told, or leaves do not name them in
+    /// the order of their numbers. `recolor_and_tighten` would leave the code the registers that it has.
+    Refused,
+}
+
+/// What becomes of the rows that are made of a code's with each loop in so many phases, of which there are at most 8.
 ///
 /// `Memory` is the only error.
-pub fn is_refused(alloc: Global, code: &Code, phases: u8) -> Result<bool, OutOfMemory> {
+pub fn judge(alloc: Global, code: &Code, phases: u8) -> Result<Verdict, OutOfMemory> {
     let rows = code.rows.as_slice();
     let shape = shape_of(alloc, rows)?;
     let mut trial = Vec::new(alloc);
@@ -311,8 +321,12 @@ pub fn is_refused(alloc: Global, code: &Code, phases: u8) -> Result<bool, OutOfM
         Some(made) => {
             let after = made.rows.as_slice();
             let does = is_renaming(code.registers, &made.told, rows, after);
-            Ok(!does || !are_named_in_order(after))
+            if does && are_named_in_order(after) {
+                Ok(Verdict::Taken)
+            } else {
+                Ok(Verdict::Refused)
+            }
         }
-        None => Ok(false),
+        None => Ok(Verdict::NotMade),
     }
 }

@@ -1,7 +1,7 @@
-//! Codes that are made of numbers: the checker refuses nothing that is made of their rows.
+//! Codes that are made of numbers: of each of them rows with other registers are made, and the checker takes them all.
 
 use pc_machine::{Code, FEW_REGISTERS, Leaf, Tree, TreeList, well_formed};
-use pc_recolor::is_refused;
+use pc_recolor::{Verdict, judge};
 use pc_word::{Item, LengthList, Limits, OpCode, Operand, OutOfMemory, RowTree, no_data};
 use std::alloc::{AllocError, Global};
 use std::test::Fail;
@@ -159,18 +159,19 @@ fn code(alloc: Global, number: u32) -> Result<Code, AllocError> {
     })
 }
 
-/// How many numbers of phases of a code's loops there are, from one to four, with which the checker refuses what is made.
-fn refusals(alloc: Global, code: &Code) -> Result<u32, OutOfMemory> {
+/// How many numbers of phases of a code's loops there are, from one to four, with which rows are made that the checker takes.
+fn taken(alloc: Global, code: &Code) -> Result<u32, OutOfMemory> {
     let mut count: u32 = 0;
     for phases in 1..=4 {
-        if is_refused(alloc, code, phases)? {
-            count = count.wrapping_add(1);
+        match judge(alloc, code, phases)? {
+            Verdict::Taken => count = count.wrapping_add(1),
+            Verdict::NotMade | Verdict::Refused => {}
         }
     }
     Ok(count)
 }
 
-/// The checker refuses nothing that is made of these codes.
+/// With each number of phases rows are made of these codes, and the checker refuses none of them.
 #[test]
 fn nothing_is_refused(rt: HostRuntime) -> Result<(), Fail> {
     let alloc = rt.alloc();
@@ -179,7 +180,7 @@ fn nothing_is_refused(rt: HostRuntime) -> Result<(), Fail> {
         let code = code(alloc, number)?;
         if well_formed(&code).is_none() {
             seen = seen.wrapping_add(1);
-            assert!(&rt; refusals(alloc, &code) == Ok(0), "code {number}");
+            assert!(&rt; taken(alloc, &code) == Ok(4), "code {number}");
         }
     }
     assert!(&rt; seen >= LEAST_WELL_FORMED, "{seen} are well formed");
