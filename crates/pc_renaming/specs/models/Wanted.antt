@@ -58,7 +58,7 @@ NeverBoth registers home kept written item other =
     (then_kept : ℕ → Kept) (then_written : ℕ → Bool) → ItemStays registers home kept written item other then_kept then_written → ⊥
 
 module _ (registers rows : ℕ) (renaming : Renaming) (home : ℕ → Option ℕ) (kept : ℕ → Kept) (written : ℕ → Bool) (item : Item) where
-  -- an item of the row before stays, and does so if the row after does the row before at all
+  -- an item of the row before stays beside the first one of the row after, and what they write is wanted alike
   pub record StaysBeside (new : CodeRow) (then_kept : ℕ → Kept) (then_written : ℕ → Bool) : Type 0 where
     pub other : Item
     pub rest : CodeRow
@@ -66,7 +66,7 @@ module _ (registers rows : ℕ) (renaming : Renaming) (home : ℕ → Option ℕ
     pub stays : ItemStays registers home kept written item other then_kept then_written
     pub alike : WriteAlike renaming item other rest
 
-  -- it does not stay if the row after does the row before at all
+  -- it does not stay beside that one, since what is left of the row after would not do what is left of the row before
   abbrev pub NeverStays : CodeRow → Type 0
   NeverStays new = (next : CodeRow) (other : Item) (rest : CodeRow) (then_kept : ℕ → Kept) (then_written : ℕ → Bool) → new ≡ Then other rest
       → ItemStays registers home kept written item other then_kept then_written → RowRenames registers rows renaming home then_kept then_written next rest → ⊥
@@ -78,6 +78,6 @@ module _ (rows : ℕ) (renaming : Renaming) (home : ℕ → Option ℕ) (kept : 
     pub leaves : (registers : ℕ) (next : CodeRow) (other : ℕ → Kept) → ItemGoes home kept item other → RowRenames registers rows renaming home other written next new
         → RowRenames registers rows renaming home then_kept written next new
 
-  -- it does not go if the row after does the row before at all
+  -- it does not go, since what is left of the row after would not do what is left of the row before
   abbrev pub NeverGoes : Type 0
   NeverGoes = (registers : ℕ) (next : CodeRow) (other : ℕ → Kept) → ItemGoes home kept item other → RowRenames registers rows renaming home other written next new → ⊥
