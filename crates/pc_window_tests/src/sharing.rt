@@ -19,7 +19,8 @@ use std::alloc::Global;
 use std::test::Fail;
 
 /// Both sides of the test print, and then the same follows.
-const PRINTING: &[u8] = b"int main(void){int c=read();int i;for(i=0;i<9;i++){if(c)print(1);else print(2);print(i);}}";
+const PRINTING: &[u8] =
+    b"int main(void){int c=read();int i;for(i=0;i<9;i++){if(c)print(1);else print(2);print(i);}}";
 
 /// From the root past the loop's test, the source's test where it holds, and the next turn's test where
 /// that holds: to the leaf there.
@@ -150,15 +151,14 @@ fn kept_of_source(alloc: Global, text: &[u8]) -> Result<Option<Kept>, Fail> {
 fn sides_that_meet_are_kept_once(rt: HostRuntime) -> Result<(), Fail> {
     let kept = kept_of_source(rt.alloc(), PRINTING)?;
     assert!(&rt;
-        kept
-            == Some(Kept {
-                places: 60,
-                unmerged: 58,
-                merged: 37,
-                owned: 38,
-                meets: true,
-                again: 37
-            })
+        kept == Some(Kept {
+            places: 60,
+            unmerged: 58,
+            merged: 37,
+            owned: 38,
+            meets: true,
+            again: 37
+        })
     );
     Ok(())
 }
