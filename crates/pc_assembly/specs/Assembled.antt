@@ -97,20 +97,20 @@ place_among offset last [] = last
 place_among offset last (line ∷ lines) =
     if nat_lt offset (content_size line.content) then line.at else place_among (offset - content_size line.content) last lines
 
--- whether a line tells the word of the data that has so many bytes before it: four for the number of words of each array up to its own
+-- whether a line is the word of the data that has this many bytes before it: four for the number of words of each array up to its own
 abbrev pub is_word_at : ℕ → Content → Bool
 is_word_at before (content.Word array value) = nat_eq before (4 * (array + 1))
 is_word_at before content.Row = false
 is_word_at before (content.Part part) = false
 is_word_at before (content.Note note) = false
 
--- where the word of the data stands that has so many bytes of the data before it, four for each word among them; what is no word of
+-- where the word of the data stands that has this many bytes of the data before it, four for each word among them; what is no word of
 -- these lines stands at `last`
 unfoldable pub word_among : ℕ → Place → List Line → Place
 word_among before last [] = last
 word_among before last (line ∷ lines) = if is_word_at before line.content then line.at else word_among (before - 4) last lines
 
--- where the data of so many arrays begin: behind the version, the limits, the numbers of arrays and registers, and the lengths
+-- where the data of this many arrays begin: after the version, the limits, the numbers of arrays and registers, and the lengths
 abbrev pub data_offset : ℕ → ℕ
 data_offset arrays = 10 + 4 * arrays
 

@@ -109,7 +109,7 @@ abbrev pub RowsReadByName : Type 0
 RowsReadByName = (names : Names) (name rest : List ℕ) (due : ℕ) → IsName name → row_named names name ≡ Some due → due ≤ most_row
     → row_line names due (name ++ (codes ":" ++ rest)) ≡ row_line names due (codes "row " ++ (decimal due ++ (codes ":" ++ rest)))
 
--- a line that gives a name begins a row, wherever it stands in a listing: so the names of the rows are those of the rows that are read
+-- a line that gives a name begins a row, wherever it stands in a listing: so only lines that begin rows give names
 abbrev pub NamesAreOfRows : Type 0
 NamesAreOfRows = (names : Names) (lengths : List ℕ) (due next : Stage) (bytes : List ℕ) (told : Content) → is_named bytes ≡ true
     → line_here names lengths due bytes ≡ Ok (next, told) → told ≡ content.Row

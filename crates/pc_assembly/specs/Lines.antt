@@ -107,7 +107,7 @@ named_here names due bytes = do
   rest ← name_is_new names due name.0 bytes colon
   usage_or_end (unblank rest)
 
--- the row with this number, by it or by a name; behind the one with the greatest number only a note may stand
+-- the row with this number, by it or by a name; after the one with the greatest number only a note may stand
 unfoldable pub row_here : Names → ℕ → List ℕ → Result (List ℕ) Complaint
 row_here names due bytes =
     if nat_lt most_row due then complain bytes (expect.Word word.Loop)

@@ -42,7 +42,7 @@ Names = List (List ℕ × ℕ)
 abbrev pub row_named : Names → List ℕ → Option ℕ
 row_named names name = lookup (bytes_eq name) names
 
--- names and that of a row behind theirs; of several rows with one name the first has it
+-- names and that of a row after them; of several rows with one name the first has it
 abbrev pub with_name : Names → List ℕ → ℕ → Names
 with_name names name row = if is_some (row_named names name) then names else names ++ (name, row) ∷ []
 
@@ -64,7 +64,7 @@ rows_after rows bytes = if is_next word.Row bytes || is_named bytes then suc row
 abbrev pub most_row : ℕ
 most_row = 16777215
 
--- names and those that lines give behind so many rows, up to the row with the greatest number
+-- names and those that lines give after this many rows, up to the row with the greatest number
 unfoldable pub names_from : Names → ℕ → List (List ℕ) → Names
 names_from names rows [] = names
 names_from names rows (line ∷ lines) =

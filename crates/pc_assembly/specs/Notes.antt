@@ -49,7 +49,7 @@ choice_here bytes =
     else (if is_next word.Plain bytes then formed plain_reason bytes
     else complain bytes expect.Form))
 
--- the word `loop`, with no number right behind it, since `loop2` may be a name of a row
+-- the word `loop`, with no number right after it, since `loop2` may be a name of a row
 abbrev pub loop_here : List ℕ → Result (List ℕ) Complaint
 loop_here bytes = if is_alone word.Loop bytes then Ok (after_run class.Name bytes) else complain bytes (expect.Word word.Loop)
 

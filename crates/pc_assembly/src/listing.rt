@@ -64,7 +64,7 @@ fn place_among(offset: usize, last: Place, lines: &[Line]) -> Place
     last
 }
 
-/// Whether a line tells the word of the data that has so many bytes before it.
+/// Whether a line is the word of the data that has this many bytes before it.
 fn is_word_at(before: usize, content: Content) -> bool
     ensures { result ≡ is_word_at before content }
 {
@@ -74,7 +74,7 @@ fn is_word_at(before: usize, content: Content) -> bool
     }
 }
 
-/// Where the word of the data stands that has so many bytes of the data before it.
+/// Where the word of the data stands that has this many bytes of the data before it.
 #[tactic(auto, unfolding(crate::specs::Assembled::word_among))]
 fn word_among(before: usize, last: Place, lines: &[Line]) -> Place
     ensures { result ≡ word_among before last lines.now }

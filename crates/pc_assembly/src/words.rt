@@ -17,7 +17,7 @@ pub fn is_next(word: Word, bytes: &[u8]) -> bool
     word.spelling() == run(Class::Letter, bytes)
 }
 
-/// Whether a word stands at the beginning, and no number right behind it.
+/// Whether a word stands at the beginning, and no number right after it.
 pub fn is_alone(word: Word, bytes: &[u8]) -> bool
     ensures { result ≡ is_alone word bytes.now }
 {

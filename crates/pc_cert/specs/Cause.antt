@@ -3,7 +3,7 @@ use Rattle.std.specs.Prelude.{Option, Some, None}
 use Rattle.pc_cert.specs.declared.refusal.CertificateError.{CertificateError}
 use Rattle.pc_cert.specs.declared.refusal.CertificateError.TheVariants.{BadMagic, Truncated, BadFact, BadStep, Trailing, Memory}
 
--- each refusal tells itself; want of memory has no cause
+-- each refusal is its own cause; want of memory has none
 abbrev pub certificate_cause : CertificateError → Option CertificateError
 certificate_cause BadMagic = Some BadMagic
 certificate_cause (Truncated offset) = Some (Truncated offset)

@@ -86,7 +86,7 @@ fact_at bytes = do
 
 -- ---- how a window begins
 
--- whether a stub alone is taken as its region, and the window, if a byte tells them
+-- whether a stub alone is taken as its region, and the window, of a byte that has these
 abbrev pub start_of : ℕ → Option (Bool × ℕ)
 start_of byte =
     if nat_le byte 8 then Some (false, byte)
@@ -97,7 +97,7 @@ start_of byte =
 abbrev pub loop_of : ℕ → Option ℕ
 loop_of number = if nat_eq number 0xFFFF then None else Some number
 
--- what a byte tells, which is no step if it tells nothing
+-- the value of a byte, or the refusal of a byte that has none
 abbrev pub known : {A : Type 0} → List ℕ → Option A → Result A Refusal
 known bytes (Some x) = Ok x
 known bytes None = Err (refusals.BadStep (length bytes))
@@ -138,7 +138,7 @@ step_at (suc (suc (suc (suc (suc (suc tag))))) ∷ rest) = Err (refusals.BadStep
 
 -- ---- the whole
 
--- so many things, one after the other
+-- this many things, one after the other
 unfoldable pub many_at : {A : Type 0} → (List ℕ → Result (A × List ℕ) Refusal) → ℕ → List ℕ → Result (List A × List ℕ) Refusal
 many_at one_at zero bytes = Ok ([], bytes)
 many_at one_at (suc count) bytes = do

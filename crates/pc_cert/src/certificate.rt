@@ -7,8 +7,8 @@ pub enum Source {
     Literal(i32),
 }
 
-/// Where a window has a value: as a parameter, which is told by its number in the order in which parameters are first
-/// used, from 0, or as a literal.
+/// Where a window has a value: as a parameter, which has the number of its place, from 0, in the order in which
+/// parameters are first used, or as a literal.
 #[derive(Clone, Copy, Debug, PartialEq, Eq)]
 pub enum WindowOperand {
     Parameter(u16),
@@ -34,7 +34,7 @@ pub struct Opening {
     pub inside: Option<u16>,
 }
 
-/// A change of a window. Items and tests are told by their numbers, and leaves by theirs, in preorder from 0.
+/// A change of a window. Items and tests are named by their numbers, and leaves by theirs, in preorder from 0.
 #[derive(Clone, Copy, Debug, PartialEq, Eq)]
 pub enum Step {
     /// The item or test comes to the end of the front's path.
@@ -69,11 +69,11 @@ pub type FactList = Seq<Fact>;
 /// Steps, in the order in which they are done.
 pub type StepList = Seq<Step>;
 
-/// What a certificate says of one row: the facts that hold whenever it begins, and the steps by which the window that
-/// is then still to be run becomes one whose front the row does.
+/// What a certificate says of one row: the facts that hold where it begins as this entry says, and the steps by which the
+/// window that is then still to be run becomes one whose front the row does.
 ///
 /// Ranks show progress: a leaf leads to an entry of a smaller rank, unless a region is entered on the way or a greater
-/// iteration is reached.
+/// iteration is reached while a test or a stub is left.
 #[derive(Debug, Drop)]
 pub struct Entry {
     pub row: u32,
@@ -83,10 +83,10 @@ pub struct Entry {
     pub steps: StepList,
 }
 
-/// Entries; the first is that of row 0.
+/// Entries, in any order; that row 0 has one is not asked here.
 pub type EntryList = Seq<Entry>;
 
-/// What shows that a code does what a table of regions does.
+/// What is claimed of a code, row by row.
 #[derive(Debug, Drop)]
 pub struct Certificate {
     pub entries: EntryList,

@@ -19,7 +19,7 @@ pub type WriteError = OutOfMemory;
 pub fn write(alloc: Global, certificate: &Certificate) -> Result<Vec<u8>, WriteError>
     requires { IsCertificate certificate.now.entries }
     ensures text { IfOk result (λ bytes. bytes.items ≡ certificate_text certificate.now.entries) }
-    // A certificate in memory holds no number that another one could be written for.
+    // Each number of a certificate in memory fits its field.
     ensures numbers { OnOk result (HasNumbers certificate.now.entries) }
 {
     let entries = certificate.entries.as_slice();

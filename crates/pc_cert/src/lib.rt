@@ -1,4 +1,4 @@
-//! Certificates, by which it is checked that an object means what its source means, and their format, PTC1, as bytes.
+//! Certificates, which say row by row why a code does what a table of regions does, and their format, PTC1, as bytes.
 #![tactic(auto)]
 
 mod certificate;

@@ -18,7 +18,7 @@ pub enum CertificateError {
     #[error("the fact at byte {offset} has an unknown tag")]
     BadFact { offset: u32 },
     /// The tag of a step is unknown, or the byte of an opening has a window above 8. The offset is that of the byte.
-    #[error("the step at byte {offset} is none")]
+    #[error("the step or opening at byte {offset} is unknown")]
     BadStep { offset: u32 },
     /// Bytes follow the entries. The offset is that of the first of them.
     #[error("bytes follow the certificate from byte {offset} on")]

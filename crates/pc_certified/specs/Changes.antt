@@ -47,8 +47,8 @@ pub record IsMoved (w v : Window) : Type 0 where
   pub limits : v.limits ≡ w.limits
   pub inside : v.inside ≡ w.inside
 
--- the front ends elsewhere over the same tree: it may be empty, and need not have the tree's root. The window's limits and its loop may
--- be others: a row keeps limits of its own
+-- the front ends elsewhere over the same tree: it may be empty, and need not have the tree's root. The window's limits, its loop
+-- and its next new numbers may be others: a row keeps limits of its own
 pub record Regroups (w v : Window) : Type 0 where
   pub tree : whole v.front ≡ whole w.front
   pub forms : v.forms ≡ w.forms

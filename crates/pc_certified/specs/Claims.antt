@@ -8,8 +8,8 @@ use Rattle.pc_canon.specs.Pairs.{Pair, OperandsAlike}
 use Rattle.pc_canon.specs.Shift.{ShiftedBy}
 use Rattle.pc_certified.specs.Facts.{Fact, EachFact, OperandsMatch}
 
--- a claim: where the machine comes to this row, what is still to be done is what the window does, and the facts hold; with its rank, and
--- the window once it is arranged, whose front the row does
+-- a claim: one way in which the machine may come to this row, where what is still to be done is what the window does, and the facts hold;
+-- with its rank, and the window once it is arranged, whose front the row does
 pub record Claim : Type 0 where
   pub row : ℕ
   pub rank : ℕ

@@ -26,7 +26,7 @@ IsUsedIn (Lit value) tree = Unit {0}
 abbrev pub HasTagUpTo : ℕ → Tree → Type 0
 HasTagUpTo tag tree = (least : ℕ) × (least_tag tree ≡ Some least) × (least ≤ tag)
 
--- a Copy of an operand to this name is put above a tree
+-- a Copy of an operand to this name is put above a tree, which uses the operand; the Copy's tag is not below the tree's least tag
 pub data CopyAddedHere (name : ℕ) : Tree → Tree → Type 0 where
   added : (tag origin : ℕ) (from : Operand) (rest : Tree) → IsUsedIn from rest → HasTagUpTo tag rest → CopyAddedHere name rest (Pending tag origin (Copy name from) rest)
 

@@ -300,12 +300,13 @@ pub enum Verdict {
     NotMade,
     /// The checker takes them.
     Taken,
-    /// The checker refuses them: since it is exact, they do not do the code's rows as is told, or leaves do not name them in
-    /// the order of their numbers. `recolor_and_tighten` would leave the code the registers that it has.
+    /// The checker refuses them. If the code is well formed, and the witness has an entry for each row, then they do not do
+    /// its rows by the witness, or leaves do not name them in the order of their numbers. `recolor_and_tighten` would leave
+    /// the code the registers that it has.
     Refused,
 }
 
-/// What becomes of the rows that are made of a code's with each loop in so many phases, of which there are at most 8.
+/// What becomes of the rows that are made of a code's with each loop in this number of phases, of which there are at most 8.
 ///
 /// `Memory` is the only error.
 pub fn judge(alloc: Global, code: &Code, phases: u8) -> Result<Verdict, OutOfMemory> {

@@ -18,6 +18,6 @@ RenamingKeepsTheRun = (renaming : Renaming) (before after : RowCode) → IsRenam
 abbrev pub RenamingKeepsForm : Type 0
 RenamingKeepsForm = (renaming : Renaming) (before after : RowCode) → IsRenamed renaming before after → WellFormed before → WellFormed after
 
--- a well-formed code has no more registers than a machine may have, and writes no other
+-- a well-formed code has at most as many registers as a machine may have, and writes none above those
 abbrev pub FormKeepsRegisters : Type 0
 FormKeepsRegisters = (code : RowCode) → WellFormed code → (code.registers ≤ most_registers) × AllByRecursion (RowWritesBelow most_registers) code.rows

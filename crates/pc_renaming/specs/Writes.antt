@@ -5,7 +5,7 @@ use Rattle.pc_word.specs.Items.{dest_of}
 use Rattle.pc_word.specs.Row.{Then, Either, At_leaf}
 use Rattle.pc_machine.specs.MachineCode.{CodeRow}
 
--- an item writes none but one of so many registers
+-- an item writes no register but those below a number
 abbrev pub ItemWritesBelow : ℕ → Item → Type 0
 ItemWritesBelow registers item = (dest : ℕ) → dest_of item ≡ Some dest → dest < registers
 

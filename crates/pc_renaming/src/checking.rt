@@ -427,9 +427,9 @@ fn does_its_origin(
     row(registers, told, &homes, &path, old, new)
 }
 
-/// Whether rows do others with other registers, of so many, as is told. It takes no memory, and for each item the time to go
-/// over what is told at the leaves below it. Nothing that is right is refused, if the rows before write but registers that a
-/// machine has.
+/// Whether rows do others with other registers, of this number, as the witness says. It takes no memory. Nothing that is
+/// right by the witness is refused, if it has an entry for each row, there are at most 256 registers, and the rows before
+/// write no others.
 pub fn is_renaming(registers: u16, told: &[RowWitness], before: &[Tree], after: &[Tree]) -> bool
     ensures renamed { result ≡ true → AreRenamed registers (renaming_of told.now) (rows_of before.now) (rows_of after.now) }
     ensures told { result ≡ true → length told.now ≡ length after.now }

@@ -79,7 +79,7 @@ impl Homes {
         }
     }
 
-    /// Whether a register, which is one of so many, has the value of a register of the code before.
+    /// Whether a register, which is below this number, has the value of a register of the code before.
     fn is_there(&self, registers: u16, register: u32, place: u32) -> bool
         ensures { (result ≡ true) ↔ ((homes_in self.now register ≡ Some place) × (place < registers)) }
     {

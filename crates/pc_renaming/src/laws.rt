@@ -2,8 +2,8 @@
 //! proved is all that it is for.
 ghost use Rattle.pc_renaming.specs.Laws.{RenamingKeepsTheRun, RenamingKeepsForm, FormKeepsRegisters};
 
-/// A renamed code runs as the code before, and is well formed where that was; and a well-formed code writes none but the
-/// registers of which `is_renaming` is exact.
+/// A renamed code runs as the code before, and is well formed where that was; and a well-formed code meets the premises of
+/// `exact` of `is_renaming` that are about the code before.
 pub fn laws_of_renaming()
     ensures runs { RenamingKeepsTheRun }
     ensures form { RenamingKeepsForm }

@@ -59,7 +59,7 @@ EachDefined P forms above (Trap_exit kind line) = Unit {0}
 abbrev pub NamedAlike : Defined → Defined → Type 0
 NamedAlike p q = p.definition ≡ q.definition → (p.name ≡ q.name) ⊎ ((is_in p.name q.above ≡ true) ⊎ (is_in q.name p.above ≡ true))
 
--- of no two definitions that are alike could the one have the other's name, where it has not
+-- as the names are, of no two definitions that are alike could the one have the other's name, where it has not
 abbrev pub IsMerged : Window → Type 0
 IsMerged w = EachDefined (λ p. EachDefined (NamedAlike p) w.forms [] (whole w.front)) w.forms [] (whole w.front)
 

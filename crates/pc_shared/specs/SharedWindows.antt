@@ -37,7 +37,7 @@ pub record IsPlain (w : SharedWindow) (v : StoredWindow) : Type 0 where
 
 -- ---- steps
 
--- the plain window was changed to another, and this is it, once definitions that are alike have one name
+-- the plain window was changed to another; if that one is proper, this is it with one name for definitions that are alike
 pub record Stepped (Gives : StoredWindow → StoredWindow → Type 0) (w v : SharedWindow) : Type 0 where
   pub before : StoredWindow
   pub after : StoredWindow

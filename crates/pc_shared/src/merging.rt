@@ -118,7 +118,7 @@ fn own_or_new(
     Ok(name)
 }
 
-/// The name in the stead of an old one, for what is defined so: the first that was given to it and does
+/// The name in place of an old one, for what is defined so: the first that was given to it and does
 /// not stand above, or else its own, or a new one where its own stands above.
 #[tactic(auto, using(crate::proofs::Giving::giving))]
 fn name_for(
@@ -214,8 +214,8 @@ fn merge(alloc: Global, window: Window) -> Result<Window, OutOfMemory>
 /// Two are alike where their items are equal but for the names that they write, at the same tag and
 /// origin, and the names have one form. From the first on, in preorder, each gets the first name that
 /// was given to one like it and does not stand above it; where there is none it keeps its own, or has
-/// a new one where that stands above by then. So trees that are equal but for names become equal, as
-/// far as they take no form variable of their own. All else stays. It takes time quadratic in the
+/// a new one where that stands above by then. So trees that are equal but for names should become
+/// equal, as far as they take no form variable of their own; that they do is tested. All else stays. It takes time quadratic in the
 /// window. `Err` comes for want of memory alone, and where a name would be 2^31; the window is dropped
 /// with it.
 pub fn merged(alloc: Global, window: Window) -> Result<Window, OutOfMemory>

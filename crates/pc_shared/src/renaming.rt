@@ -23,7 +23,7 @@ pub(crate) enum Renaming<'a> {
     },
 }
 
-/// The name in the stead of a name.
+/// The name in place of a name.
 fn renamed_name(names: &Renaming, name: u32) -> u32
     ensures { result ≡ renamed_name (pairs_in names.now) name }
 {
@@ -39,7 +39,7 @@ fn renamed_name(names: &Renaming, name: u32) -> u32
     }
 }
 
-/// Whether a name is in the stead of one that is defined above.
+/// Whether a name is in place of one that is defined above.
 pub(crate) fn is_given(names: &Renaming, name: u32) -> bool
     ensures { result ≡ is_in name (others (pairs_in names.now)) }
 {

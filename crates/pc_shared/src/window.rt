@@ -174,8 +174,8 @@ impl SharedWindow {
         })
     }
 
-    /// The window after a step, which is a call on plain windows: opening apart, each of them passes
-    /// through here. The step is given the plain window; of what it gives, definitions that are alike
+    /// The window after a step, which is a call on plain windows: opening and cutting apart, each of them
+    /// can pass through here. The step is given the plain window; of what it gives, definitions that are alike
     /// get one name, and equal nodes are kept once. This window stays as it is. What the step answers
     /// in place of a window is handed on.
     #[tactic(auto, using(crate::proofs::PlainWindows::single))]

@@ -22,8 +22,8 @@ use std::test::Fail;
 const PRINTING: &[u8] =
     b"int main(void){int c=read();int i;for(i=0;i<9;i++){if(c)print(1);else print(2);print(i);}}";
 
-/// From the root past the loop's test, the source's test where it holds, and the next turn's test where
-/// that holds: to the leaf there.
+/// From the root past the loop's test, the source's test where it holds, and the test of the next iteration
+/// where that holds: to the leaf there.
 const PAST_YES: [bool; 15] = [true; 15];
 
 /// The same where the source's test does not hold.
@@ -144,7 +144,7 @@ fn kept_of_source(alloc: Global, text: &[u8]) -> Result<Option<Kept>, Fail> {
     Ok(Some(kept_of(alloc, &table, region)?))
 }
 
-/// Behind the next turn's test, whose own name takes a form variable, the sides of the source's test are
+/// After the test of the next iteration, whose own name takes a form variable, the sides of the source's test are
 /// equal once names are merged. They are kept once then, and so is the leaf that leads there; where it
 /// gets a node of its own below it, that is one node more. A step brings equal nodes together again.
 #[test]

@@ -46,7 +46,7 @@ pub data Chooses (above : List ℕ) (old : ℕ) (form : Form) (names : Supply) :
   its_own : is_in old above ≡ false → Chooses above old form names old names
   a_new : Chooses above old form names names.next (with_name names (Some form))
 
--- below these pairs of names, a name is given in the stead of an old one: the first that may be, or one that is chosen
+-- below these pairs of names, a name is given in place of an old one: the first that may be, or one that is chosen
 pub data GivesName (pairs : List Pair) (old : ℕ) (definition : Definition) (g : Giving) : ℕ → Giving → Type 0 where
   given_before : {name : ℕ} → FirstFree (others pairs) definition g.given (Some name) → GivesName pairs old definition g name g
   given_now : {name : ℕ} {names : Supply} → FirstFree (others pairs) definition g.given None

@@ -1,4 +1,4 @@
--- Names in the stead of those that are defined above a place.
+-- Names in place of those that are defined above a place.
 use Rattle.std.specs.Prelude.{ℕ, if◌then◌else◌, nat_eq, List, [], ◌∷◌}
 use Rattle.pc_word.specs.declared.item.Item.{Item}
 use Rattle.pc_word.specs.Naming.{map_name, map_operands}
@@ -11,7 +11,7 @@ abbrev pub pairs_in : Renaming → List Pair
 pairs_in Themselves = []
 pairs_in (Defined' one other p above) = record { one = one; other = other } ∷ pairs_in above
 
--- the name in the stead of a name: that of the first pair which has it, or itself
+-- the name in place of a name: that of the first pair which has it, or itself
 abbrev pub renamed_name : List Pair → ℕ → ℕ
 renamed_name [] x = x
 renamed_name (pair ∷ pairs) x = if nat_eq pair.one x then pair.other else renamed_name pairs x
