@@ -160,7 +160,7 @@ writer_dest (writes_later other h) = writer_dest h
 -- after a path, an operand has the value that another one had before it: it is the same one, which is not written, or a Copy of it
 pub data IsSameAfter (items : List Item) (from : Operand) : Operand → Type 0 where
   stays : IsUnchanged from items → IsSameAfter items from from
-  is_copy : {name : ℕ} → IsWriter name (Copy name from) items → IsSameAfter items from (Name name)
+  by_copy : {name : ℕ} → IsWriter name (Copy name from) items → IsSameAfter items from (Name name)
 
 -- of one Copy
 module _ (items : List Item) (from to : Operand) where
@@ -168,7 +168,7 @@ module _ (items : List Item) (from to : Operand) where
       → In (if b then Name name ∷ [] else []) to → IsSameAfter items from to
   copies_if true name copied same h (inl e) =
       let is : copied ≡ from = operand_of copied from same in
-      subst (IsSameAfter items from) e (is_copy (subst (λ (o : Operand). IsWriter name (Copy name o) items) is h))
+      subst (IsSameAfter items from) e (by_copy (subst (λ (o : Operand). IsWriter name (Copy name o) items) is h))
   copies_if true name copied same h (inr never) = absurd never
   copies_if false name copied same h never = absurd never
 
@@ -218,7 +218,7 @@ there items (Lit value) h = inl refl
 -- and each operand that has it is one of these
 pub same_after_is : (items : List Item) (from to : Operand) → IsSameAfter items from to → In (same_after (first_writers items) from) to
 same_after_is items from to (stays h) = in_front (if_unchanged (first_writers items) from) (flat_map (copy_of from) (first_writers items)) from (there items from h)
-same_after_is items from to (is_copy {name} h) =
+same_after_is items from to (by_copy {name} h) =
     in_back (if_unchanged (first_writers items) from) (flat_map (copy_of from) (first_writers items)) (Name name)
     (of_flat (copy_of from) (first_writers items) (Copy name from) (Name name) (writer_there [] h refl)
     (of_if (same_operand from from) (Name name ∷ []) (Name name) (same_operand_itself from) (inl refl)))

@@ -1,20 +1,21 @@
 -- The facts that are listed after two paths are those that hold after them.
-use Rattle.std.proofs.Common.{◌≡◌, ℕ, inl, inr, true, List, [], ◌++◌, map, Option, Some, None, refl, sym, ap, subst}
-use Rattle.std.specs.Prelude.{ℤ, filter}
+use Rattle.std.proofs.Common.{◌≡◌, ℕ, inl, inr, true, false, List, [], ◌++◌, map, Option, Some, None, refl, sym, ap, subst}
+use Rattle.std.specs.Prelude.{not, ◌&&◌, ℤ, filter}
 use Rattle.std.specs.List.{flat_map}
 use Rattle.pc_word.specs.declared.item.Item.{Item}
 use Rattle.pc_word.specs.declared.item.Item.TheVariants.{Bin, Copy, Load, Store, Print, Read, More}
 use Rattle.pc_word.specs.declared.item.Operand.{Operand}
 use Rattle.pc_word.specs.declared.item.Operand.TheVariants.{Name, Lit}
 use Rattle.pc_word.specs.Items.{dest_of}
-use Rattle.pc_certified.specs.Facts.{Fact, OperandsMatch, ItemsMatch, same_copy}
+use Rattle.pc_word.proofs.Truth.{and_true, and_made}
+use Rattle.pc_certified.specs.Facts.{Fact, OperandsMatch, ItemsMatch, same_bin, same_copy, same_load, same_store, same_print, same_read, same_more}
 use Rattle.pc_certified.specs.Paths.{IsWriter, IsUnchanged, FactAfter, unchanged, copied_by_row, copied_by_front, computed as by_items}
 use Rattle.pc_matching.specs.Matching.{items_match}
-use Rattle.pc_matching.specs.FactsAfter.{that, first_writers, same_after, some_name, is_of_name, copied_literal, facts_before, carried, same_names, computed_by, computed, facts_after}
+use Rattle.pc_matching.specs.FactsAfter.{that, first_writers, same_after, some_name, is_of_name, copied_literal, facts_before, carried, same_names, is_copy, computed_by, computed, facts_after}
 use Rattle.pc_matching.specs.Laws.{ListedFactsHold, AllFactsAreListed}
 use Rattle.pc_matching.proofs.Tests.{items_of_test, test_of_items}
 use Rattle.pc_matching.proofs.Elements.{In, in_of, of_in, in_front, in_back, in_either, in_if, of_if, in_filter, of_filter, in_map, of_map, in_flat, of_flat}
-use Rattle.pc_matching.proofs.FirstWriters.{IsFirstWriter, is_first_writer, writer_there, writer_dest, IsSameAfter, stays, is_copy, is_same_after, same_after_is}
+use Rattle.pc_matching.proofs.FirstWriters.{IsFirstWriter, is_first_writer, writer_there, writer_dest, IsSameAfter, stays, by_copy, is_same_after, same_after_is}
 
 -- a fact is that its source has its operand's value
 whole : (fact : Fact) → that fact.source fact.operand ≡ fact
@@ -36,9 +37,9 @@ module _ (facts : List Fact) (items others : List Item) where
   holds : (source operand source' operand' : Operand) → OperandsMatch facts source operand → IsSameAfter items source source' → IsSameAfter others operand operand'
       → FactAfter facts items others (that source' operand')
   holds source operand source' operand' h (stays k) (stays j) = unchanged h k j
-  holds source operand source' operand' h (is_copy k) (stays j) = copied_by_row k h j
-  holds source operand source' operand' h (stays k) (is_copy j) = copied_by_front j h k
-  holds source operand source' operand' h (is_copy k) (is_copy j) = by_items k j (same_copy h)
+  holds source operand source' operand' h (by_copy k) (stays j) = copied_by_row k h j
+  holds source operand source' operand' h (stays k) (by_copy j) = copied_by_front j h k
+  holds source operand source' operand' h (by_copy k) (by_copy j) = by_items k j (same_copy h)
 
   -- a fact that says something of a name is one of those that are given
   given : (source operand : Operand) → some_name source operand ≡ true → In facts (that source operand) → OperandsMatch facts source operand
@@ -102,8 +103,9 @@ module _ (facts : List Fact) (items others : List Item) where
   computed_holds after h =
       let one = in_flat (λ item. flat_map (computed_by facts item) front_writers) writers after h in
       let other = in_flat (computed_by facts one.0) front_writers after one.2 in
-      let same = in_if (items_match facts one.0 other.0) (same_names (dest_of one.0) (dest_of other.0)) after other.2 in
-      both_first one.0 other.0 after one.1 other.1 (items_of_test facts one.0 other.0 same.0) same.1
+      let same = in_if (not (is_copy one.0) && items_match facts one.0 other.0) (same_names (dest_of one.0) (dest_of other.0)) after other.2 in
+      let match = (and_true (not (is_copy one.0)) (items_match facts one.0 other.0) same.0).1 in
+      both_first one.0 other.0 after one.1 other.1 (items_of_test facts one.0 other.0 match) same.1
 
   pub listed_holds : (after : Fact) → In (facts_after facts items others) after → FactAfter facts items others after
   listed_holds after h = elim (in_either (flat_map (carried writers front_writers) before) (computed facts writers front_writers) after h) [
@@ -175,26 +177,53 @@ module _ (facts : List Fact) (items others : List Item) where
   name_last (Lit v) name = refl
   name_last (Name x) name = refl
 
-  computed_listed : (register name : ℕ) (item other : Item) → IsWriter register item items → IsWriter name other others → ItemsMatch facts item other
+  copies_listed : (register name dest dest' : ℕ) (from from' : Operand) → Some dest ≡ Some register → Some dest' ≡ Some name
+      → IsWriter register (Copy dest from) items → IsWriter name (Copy dest' from') others → OperandsMatch facts from from'
       → In (facts_after facts items others) (that (Name register) (Name name))
-  computed_listed register name item other h k match =
+  copies_listed register name dest dest' from from' is is' h k match =
+      let one : dest ≡ register = (cc) in
+      let two : dest' ≡ name = (cc) in
+      let first : IsWriter register (Copy register from) items = subst (λ (n : ℕ). IsWriter register (Copy n from) items) one h in
+      let second : IsWriter name (Copy name from') others = subst (λ (n : ℕ). IsWriter name (Copy n from') others) two k in
+      carry from from' (Name register) (Name name) (known from from' match (λ value e e'. row_literal register from value first e)) (by_copy first) (by_copy second)
+
+  computed_listed : (register name : ℕ) (item other : Item) → is_copy item ≡ false → IsWriter register item items → IsWriter name other others → ItemsMatch facts item other
+      → In (facts_after facts items others) (that (Name register) (Name name))
+  computed_listed register name item other none h k match =
       let names : In (same_names (dest_of item) (dest_of other)) (that (Name register) (Name name)) =
       subst (λ (d : Option ℕ). In (same_names d (dest_of other)) (that (Name register) (Name name))) (sym (writer_dest h))
       (subst (λ (d : Option ℕ). In (same_names (Some register) d) (that (Name register) (Name name))) (sym (writer_dest k)) (inl refl)) in
       in_back (flat_map (carried writers front_writers) before) (computed facts writers front_writers) (that (Name register) (Name name))
       (of_flat (λ one. flat_map (computed_by facts one) front_writers) writers item (that (Name register) (Name name)) (writer_there [] h refl)
       (of_flat (computed_by facts item) front_writers other (that (Name register) (Name name)) (writer_there [] k refl)
-      (of_if (items_match facts item other) (same_names (dest_of item) (dest_of other)) (that (Name register) (Name name)) (test_of_items facts match) names)))
+      (of_if (not (is_copy item) && items_match facts item other) (same_names (dest_of item) (dest_of other)) (that (Name register) (Name name))
+      (and_made (not (is_copy item)) (items_match facts item other) (ap not none) (test_of_items facts match)) names)))
+
+  -- of items that match, copies have what they copy, and the others are listed
+  matching_listed : (register name : ℕ) {item other : Item} → IsWriter register item items → IsWriter name other others → ItemsMatch facts item other
+      → In (facts_after facts items others) (that (Name register) (Name name))
+  matching_listed register name h k (same_copy {dest} {dest'} {from} {from'} match) =
+      copies_listed register name dest dest' from from' (writer_dest h) (writer_dest k) h k match
+  matching_listed register name h k (same_bin {op} {dest} {dest'} {left} {left'} {right} {right'} one two) =
+      computed_listed register name (Bin op dest left right) (Bin op dest' left' right') refl h k (same_bin one two)
+  matching_listed register name h k (same_load {array} {dest} {dest'} {index} {index'} match) =
+      computed_listed register name (Load dest array index) (Load dest' array index') refl h k (same_load match)
+  matching_listed register name h k (same_store {array} {index} {index'} {value} {value'} one two) =
+      computed_listed register name (Store array index value) (Store array index' value') refl h k (same_store one two)
+  matching_listed register name h k (same_print {value} {value'} match) =
+      computed_listed register name (Print value) (Print value') refl h k (same_print match)
+  matching_listed register name h k (same_read {dest} {dest'}) = computed_listed register name (Read dest) (Read dest') refl h k same_read
+  matching_listed register name h k (same_more {dest} {dest'}) = computed_listed register name (More dest) (More dest') refl h k same_more
 
   pub all_listed : (fact : Fact) → FactAfter facts items others fact → OperandsMatch (facts_after facts items others) fact.source fact.operand
   all_listed fact (unchanged {source} {operand} h k j) = unchanged_listed source operand h k j
   all_listed fact (copied_by_row {register} {from} {operand} k h j) =
       matches_name (Name register) operand
-      (carry from operand (Name register) operand (known from operand h (λ value e e'. row_literal register from value k e)) (is_copy k) (stays j)) refl
+      (carry from operand (Name register) operand (known from operand h (λ value e e'. row_literal register from value k e)) (by_copy k) (stays j)) refl
   all_listed fact (copied_by_front {name} {source} {from} j h k) =
       matches_name source (Name name)
-      (carry source from source (Name name) (known source from h (λ value e e'. front_literal name from value j e')) (stays k) (is_copy j)) (name_last source name)
-  all_listed fact (by_items {register} {name} {item} {other} h k match) = matches_name (Name register) (Name name) (computed_listed register name item other h k match) refl
+      (carry source from source (Name name) (known source from h (λ value e e'. front_literal name from value j e')) (stays k) (by_copy j)) (name_last source name)
+  all_listed fact (by_items {register} {name} h k match) = matches_name (Name register) (Name name) (matching_listed register name h k match) refl
 
 pub listed_facts_hold : ListedFactsHold
 listed_facts_hold facts items others fact h = listed_holds facts items others fact (in_of (facts_after facts items others) fact h)

@@ -1,5 +1,5 @@
 -- The facts that hold after a row's path and a front's path, as a list.
-use Rattle.std.specs.Prelude.{ℕ, Bool, true, false, if◌then◌else◌, List, [], ◌∷◌, ◌++◌, map, filter, Option, Some, None}
+use Rattle.std.specs.Prelude.{ℕ, Bool, ◌&&◌, not, true, false, if◌then◌else◌, List, [], ◌∷◌, ◌++◌, map, filter, Option, Some, None}
 use Rattle.std.specs.List.{list_any, flat_map}
 use Rattle.pc_word.specs.declared.item.Item.{Item}
 use Rattle.pc_word.specs.declared.item.Item.TheVariants.{Copy}
@@ -79,9 +79,14 @@ abbrev pub same_names : Option ℕ → Option ℕ → List Fact
 same_names (Some register) (Some name) = that (Name register) (Name name) ∷ []
 same_names _ _ = []
 
--- what follows from two items that match
+-- whether an item copies an operand
+abbrev pub is_copy : Item → Bool
+is_copy (Copy name from) = true
+is_copy _ = false
+
+-- what follows from two items that match; from copies it follows by what they copy
 abbrev pub computed_by : List Fact → Item → Item → List Fact
-computed_by facts item other = if items_match facts item other then same_names (dest_of item) (dest_of other) else []
+computed_by facts item other = if not (is_copy item) && items_match facts item other then same_names (dest_of item) (dest_of other) else []
 
 -- what follows from all items that match
 abbrev pub computed : List Fact → List Item → List Item → List Fact

@@ -2,7 +2,7 @@
 ghost use Rattle.std.specs.Prelude.{◌≡◌, ◌++◌, map, filter, OnOk};
 ghost use Rattle.std.specs.List.{flat_map};
 ghost use Rattle.pc_matching.specs.Facts.{fact_of, facts_of};
-ghost use Rattle.pc_matching.specs.FactsAfter.{that, some_name, is_of_name, copied_literal, carried, same_after, computed_by, computed};
+ghost use Rattle.pc_matching.specs.FactsAfter.{that, some_name, is_of_name, copied_literal, carried, same_after, is_copy, computed_by, computed};
 ghost use Rattle.pc_word.specs.Items.{dest_of};
 
 use crate::fact::{Fact, FactList};
@@ -120,7 +120,14 @@ pub(crate) fn push_each_carried(
     Ok(())
 }
 
-/// Puts what follows from two items, if they match, behind others.
+/// Whether an item copies an operand.
+fn is_copy(item: Item) -> bool
+    ensures { result ≡ is_copy item }
+{
+    matches!(item, Item::Copy { .. })
+}
+
+/// Puts what follows from two items, if they match and are no copies, behind others.
 fn push_same_names(
     after: &mut FactList,
     facts: &[Fact],
@@ -129,6 +136,9 @@ fn push_same_names(
 ) -> Result<(), AllocError>
     ensures { OnOk result (facts_of after.new ≡ facts_of after.old ++ computed_by (facts_of facts.now) item other) }
 {
+    if is_copy(item) {
+        return Ok(());
+    }
     if !items_match(facts, item, other) {
         return Ok(());
     }

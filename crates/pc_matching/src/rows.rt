@@ -151,8 +151,8 @@ fn match_below<L, M>(
 /// `None`: it is not found to. A store, print or read is matched by the first that it matches; so a
 /// row may be missed whose facts let one match several.
 ///
-/// Takes time in the product of facts and items of a path, for each leaf, and memory for the items of
-/// a path at each test on it.
+/// For each leaf it takes time in the product of the facts and of the items of both paths at most,
+/// and memory for its facts; and, on the way down, for the items above at each item and test.
 pub fn match_row<L, M>(
     alloc: Global,
     facts: &[Fact],
