@@ -25,7 +25,7 @@ abbrev pub with_writer : List Item → Item → Option ℕ → List Item
 with_writer items item None = items
 with_writer items item (Some name) = if some_writes items name then items else items ++ item ∷ []
 
--- the first writer of each name that a path writes, behind the first writers of what stands above it
+-- the first writer of each name that a path writes, after the first writers of what stands above it
 abbrev pub writers_below : List Item → List Item → List Item
 writers_below above [] = above
 writers_below above (item ∷ items) = writers_below (with_writer above item (dest_of item)) items

@@ -1,4 +1,4 @@
-//! Facts that are put behind others: those before two paths, and what follows from each after them.
+//! Facts that are appended to others: those before two paths, and what follows from each after them.
 ghost use Rattle.std.specs.Prelude.{◌≡◌, ◌++◌, map, filter, OnOk};
 ghost use Rattle.std.specs.List.{flat_map};
 ghost use Rattle.pc_matching.specs.Facts.{fact_of, facts_of};
@@ -24,7 +24,7 @@ fn some_name(source: Operand, operand: Operand) -> bool
     }
 }
 
-/// Puts the facts that say something of a name behind others.
+/// Appends the facts that say something of a name.
 pub(crate) fn push_given(before: &mut FactList, facts: &[Fact]) -> Result<(), AllocError>
     ensures { OnOk result (facts_of before.new ≡ facts_of before.old ++ filter is_of_name (facts_of facts.now)) }
 {
@@ -36,7 +36,7 @@ pub(crate) fn push_given(before: &mut FactList, facts: &[Fact]) -> Result<(), Al
     Ok(())
 }
 
-/// Puts behind others that the literal which an item copies has its own value.
+/// Appends that the literal which an item copies has its own value.
 fn push_literal(before: &mut FactList, item: Item) -> Result<(), AllocError>
     ensures { OnOk result (facts_of before.new ≡ facts_of before.old ++ copied_literal item) }
 {
@@ -52,7 +52,7 @@ fn push_literal(before: &mut FactList, item: Item) -> Result<(), AllocError>
     }
 }
 
-/// Puts behind others that the literals which these items copy have their own values.
+/// Appends that the literals which these items copy have their own values.
 pub(crate) fn push_literals(before: &mut FactList, writers: &[Item]) -> Result<(), AllocError>
     ensures { OnOk result (facts_of before.new ≡ facts_of before.old ++ flat_map copied_literal writers.now) }
 {
@@ -62,7 +62,7 @@ pub(crate) fn push_literals(before: &mut FactList, writers: &[Item]) -> Result<(
     Ok(())
 }
 
-/// Puts behind others that a source has the values of these operands.
+/// Appends that a source has the values of these operands.
 fn push_said(after: &mut FactList, source: Operand, operands: &[Operand]) -> Result<(), AllocError>
     ensures { OnOk result (facts_of after.new ≡ facts_of after.old ++ map (that source) operands.now) }
 {
@@ -75,7 +75,7 @@ fn push_said(after: &mut FactList, source: Operand, operands: &[Operand]) -> Res
     Ok(())
 }
 
-/// Puts behind others that each of these sources has the values of these operands.
+/// Appends that each of these sources has the values of these operands.
 fn push_pairs(
     after: &mut FactList,
     sources: &[Operand],
@@ -89,7 +89,7 @@ fn push_pairs(
     Ok(())
 }
 
-/// Puts what follows after two paths from a fact before them behind others.
+/// Appends what follows after two paths from a fact before them.
 fn push_carried(
     alloc: Global,
     after: &mut FactList,
@@ -104,7 +104,7 @@ fn push_carried(
     push_pairs(after, sources.as_slice(), operands.as_slice())
 }
 
-/// Puts what follows after two paths from facts before them behind others.
+/// Appends what follows after two paths from facts before them.
 pub(crate) fn push_each_carried(
     alloc: Global,
     after: &mut FactList,
@@ -127,7 +127,7 @@ fn is_copy(item: Item) -> bool
     matches!(item, Item::Copy { .. })
 }
 
-/// Puts what follows from two items, if they match and are no copies, behind others.
+/// Appends what follows from two items, if they match and are no copies.
 fn push_same_names(
     after: &mut FactList,
     facts: &[Fact],
@@ -154,7 +154,7 @@ fn push_same_names(
     }
 }
 
-/// Puts what follows from an item and each of these that it matches behind others.
+/// Appends what follows from an item and each of these that it matches.
 fn push_computed_by(
     after: &mut FactList,
     facts: &[Fact],
@@ -169,7 +169,7 @@ fn push_computed_by(
     Ok(())
 }
 
-/// Puts what follows from all items that match behind others.
+/// Appends what follows from all items that match.
 pub(crate) fn push_computed(
     after: &mut FactList,
     facts: &[Fact],

@@ -27,7 +27,7 @@ fn is_ordered(item: Item) -> bool
     matches!(item, Item::Print { .. } | Item::Read { .. })
 }
 
-/// Puts items behind others.
+/// Appends items.
 fn push_items(items: &mut ItemList, more: &[Item]) -> Result<(), AllocError>
     ensures { OnOk result (items.new ≡ items.old ++ more.now) }
 {

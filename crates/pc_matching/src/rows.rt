@@ -12,7 +12,7 @@ use crate::matching::operands_match;
 use pc_word::{Item, OutOfMemory, RowTree};
 use std::alloc::{AllocError, Global};
 
-/// Items with one more behind them.
+/// Items with one more after them.
 fn with_item(alloc: Global, items: &[Item], item: Item) -> Result<ItemList, AllocError>
     ensures { IfOk result (λ all. all ≡ items.now ++ item ∷ []) }
 {
@@ -21,7 +21,7 @@ fn with_item(alloc: Global, items: &[Item], item: Item) -> Result<ItemList, Allo
     Ok(all)
 }
 
-/// Puts the items above the first test or leaf of a row behind others.
+/// Appends the items above the first test or leaf of a row.
 fn push_first_items<M>(items: &mut ItemList, row: &RowTree<M>) -> Result<(), AllocError>
     ensures { OnOk result (items.new ≡ items.old ++ first_items (row_in (λ leaf. leaf) row.now)) }
 {
@@ -34,7 +34,7 @@ fn push_first_items<M>(items: &mut ItemList, row: &RowTree<M>) -> Result<(), All
     }
 }
 
-/// Items with those above the first test or leaf of a row behind them.
+/// Items with those above the first test or leaf of a row after them.
 fn with_first_items<M>(
     alloc: Global,
     items: &[Item],
@@ -57,7 +57,7 @@ fn below_items<M>(row: &RowTree<M>) -> &RowTree<M>
     }
 }
 
-/// Puts the facts after two paths behind those at other leaves, if the effects of both paths match.
+/// Appends the facts after two paths to those at other leaves, if the effects of both paths match.
 /// Tells whether they do.
 #[tactic(auto, using(crate::proofs::Stored::put))]
 fn push_facts_after(
@@ -77,7 +77,7 @@ fn push_facts_after(
     Ok(true)
 }
 
-/// Puts the facts at the leaf of a path behind those at others, if what stands below the items of a
+/// Appends the facts at the leaf of a path to those at others, if what stands below the items of a
 /// front is a leaf, and the effects of both paths match. Tells whether it is so.
 #[tactic(auto, using(crate::proofs::Stored::put))]
 fn match_leaf<M>(
@@ -97,7 +97,7 @@ fn match_leaf<M>(
     }
 }
 
-/// Puts the facts at each leaf of a row behind those at others, where these items of the row and of
+/// Appends the facts at each leaf of a row to those at others, where these items of the row and of
 /// a front stand above; where the row does not do what the front does, it tells so.
 #[tactic(auto, using(crate::proofs::Stored::put))]
 fn match_below<L, M>(
@@ -145,7 +145,7 @@ fn match_below<L, M>(
 /// Whether a row does what a front does, where these facts hold as it begins, and which facts hold at
 /// each leaf then, in preorder: those of registers, literals and operands that neither writes, of what
 /// is copied, and of what items compute that match. A front is a row whose leaves are what is left
-/// behind it; the leaves of neither are looked at. Tests match in their order, stores in any order, and
+/// after it; the leaves of neither are looked at. Tests match in their order, stores in any order, and
 /// prints and reads in theirs.
 ///
 /// `None`: it is not found to. A store, print or read is matched by the first that it matches; so a

@@ -16,7 +16,7 @@ fn some_writes(items: &[Item], name: u32) -> bool
     items.iter().any(|item| item.writes(name))
 }
 
-/// Puts an item behind others, if it writes a name that none of them writes.
+/// Appends an item, if it writes a name that none of them writes.
 fn push_writer(writers: &mut ItemList, item: Item) -> Result<(), AllocError>
     ensures { OnOk result (writers.new ≡ with_writer writers.old item (dest_of item)) }
 {
@@ -42,7 +42,7 @@ pub(crate) fn first_writers(alloc: Global, items: &[Item]) -> Result<ItemList, A
     Ok(writers)
 }
 
-/// Puts an operand behind others, if none of these items writes it.
+/// Appends an operand, if none of these items writes it.
 fn push_unchanged(
     operands: &mut OperandList,
     writers: &[Item],
@@ -61,7 +61,7 @@ fn push_unchanged(
     }
 }
 
-/// Puts the name of an item that copies an operand behind others.
+/// Appends the name of an item that copies an operand.
 fn push_copy(operands: &mut OperandList, from: Operand, item: Item) -> Result<(), AllocError>
     ensures { OnOk result (operands.new ≡ operands.old ++ copy_of from item) }
 {
@@ -76,7 +76,7 @@ fn push_copy(operands: &mut OperandList, from: Operand, item: Item) -> Result<()
     }
 }
 
-/// Puts the names of items that copy an operand behind others.
+/// Appends the names of items that copy an operand.
 fn push_copies(
     operands: &mut OperandList,
     from: Operand,

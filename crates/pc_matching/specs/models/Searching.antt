@@ -8,7 +8,7 @@ abbrev pub with_all_above : List Item → Option (List Item) → Option (List It
 with_all_above items None = None
 with_all_above items (Some left) = Some (items ++ left)
 
--- lists of facts were put behind others, if there are such lists; a test says whether there are
+-- lists of facts were appended to others, if there are such lists; a test says whether there are
 pub data IsPut (old new : List (List Fact)) : Option (List (List Fact)) → Bool → Type 0 where
   is_put : {helds : List (List Fact)} → new ≡ old ++ helds → IsPut old new (Some helds) true
   is_none : IsPut old new None false
