@@ -15,4 +15,5 @@ loop-preserved c =
     (many_at entry_at c.args.count c.args.bytes.now) c.loop-test.true c.in_ok-entry.ensures c.loop.invariant)
 
 pub returns : goal.returns
-returns c = rw c.from_vec.ensures (many_done entry_at c.loop.entries.items c.args.count c.loop.counter c.loop.rest.now (many_at entry_at c.args.count c.args.bytes.now) c.loop-test.false c.loop.invariant)
+returns c = rw c.from_vec.ensures (many_done entry_at c.loop.entries.items c.args.count c.loop.counter c.loop.rest.now
+    (many_at entry_at c.args.count c.args.bytes.now) c.loop-test.false c.loop.invariant)
