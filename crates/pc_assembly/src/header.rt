@@ -1,82 +1,28 @@
 //! The writers of an object's header.
 
-ghost use Rattle.std.specs.Prelude.{◌≡◌, ◌++◌, ◌∷◌, ◌<◌, ◌≤◌, ◌^◌, length, IfOk, IfErr, OnOk};
+ghost use Rattle.std.specs.Prelude.{◌≡◌, ◌++◌, ◌≤◌, length, IfOk, IfErr, OnOk};
 ghost use Rattle.std.specs.List.{flat_map};
-ghost use Rattle.pc_word.specs.Data.{has_no_data};
-ghost use Rattle.pc_object.specs.ObjectText.{u32_text, version_text, data_text, storage_text, fits_ptv1, version_for, word_text};
+ghost use Rattle.pc_object.specs.ObjectText.{data_text, storage_text};
 ghost use Rattle.pc_assembly.specs.models.Headers.{header_of};
 ghost use Rattle.pc_assembly.specs.Assembled.{content_words, array_words, initial_from, header_with, header_bytes};
 
 use crate::error::ListingError;
 use crate::limits::Header;
 use crate::line::{Content, Line};
-use crate::pushing::{push_u16, push_u32, push_word};
-use pc_machine::FEW_REGISTERS;
-use pc_object::Version;
+use pc_object::{Version, push_data, push_lengths, push_u16, push_u32, push_version, version_for};
 use pc_word::{Seq, WordList};
 use std::alloc::{AllocError, Global};
 
-/// Whether `PTV1` can tell of so many registers and this data.
-fn fits_ptv1(registers: u16, initial: &[WordList]) -> bool
-    ensures { result ≡ fits_ptv1 registers initial.now }
-{
-    registers as usize == FEW_REGISTERS && has_no_data(initial)
-}
-
-/// The version of a text with so many registers and this data.
-fn version_for(registers: u16, initial: &[WordList]) -> Version
-    ensures { result ≡ version_for registers initial.now }
-{
-    if fits_ptv1(registers, initial) {
-        Version::Ptv1
-    } else {
-        Version::Ptv2
-    }
-}
-
-fn has_no_data(lists: &[WordList]) -> bool
-    ensures { result ≡ has_no_data lists.now }
-{
-    for words in lists {
-        if !words.is_empty() {
-            return false;
-        }
-    }
-    true
-}
-
-fn push_version(out: &mut Vec<u8>, version: Version) -> Result<(), AllocError>
-    ensures { OnOk result (out.new.items ≡ out.old.items ++ version_text version) }
-{
-    match version {
-        Version::Ptv1 => out.extend_from_slice(b"PTV1"),
-        Version::Ptv2 => out.extend_from_slice(b"PTV2"),
-    }
-}
-
-fn push_lengths(out: &mut Vec<u8>, lengths: &[u32]) -> Result<(), AllocError>
-    ensures { OnOk result (out.new.items ≡ out.old.items ++ flat_map u32_text lengths.now) }
-{
-    for length in lengths {
-        push_u32(out, *length)?;
-    }
-    Ok(())
-}
-
 /// Appends the data of an array. Where a number of four bytes does not tell how many words there are, there is no
 /// memory for the object either.
-fn push_data(out: &mut Vec<u8>, words: &[i32]) -> Result<(), ListingError>
+fn push_words(out: &mut Vec<u8>, words: &[i32]) -> Result<(), ListingError>
     ensures text { OnOk result (out.new.items ≡ out.old.items ++ data_text words.now) }
     ensures memory { IfErr result (λ error. error ≡ ListingError.Memory) }
 {
     if words.len() > u32::MAX as usize {
         return Err(ListingError::Memory);
     }
-    push_u32(out, words.len() as u32)?;
-    for word in words {
-        push_word(out, *word)?;
-    }
-    Ok(())
+    Ok(push_data(out, words)?)
 }
 
 fn push_each_data(out: &mut Vec<u8>, lists: &[WordList]) -> Result<(), ListingError>
@@ -84,7 +30,7 @@ fn push_each_data(out: &mut Vec<u8>, lists: &[WordList]) -> Result<(), ListingEr
     ensures memory { IfErr result (λ error. error ≡ ListingError.Memory) }
 {
     for words in lists {
-        push_data(out, words.as_slice())?;
+        push_words(out, words.as_slice())?;
     }
     Ok(())
 }

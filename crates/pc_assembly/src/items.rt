@@ -3,7 +3,9 @@
 ghost use Rattle.std.specs.Prelude.{◌≡◌, ◌<◌, IfOk};
 ghost use Rattle.pc_word.specs.Exact.{IsExact};
 ghost use Rattle.pc_assembly.specs.models.Causes.{halt_cause};
-ghost use Rattle.pc_assembly.specs.models.Ranges.{IsByteOperand, IsByteItem};
+ghost use Rattle.pc_machine.specs.Registers.{most_registers};
+ghost use Rattle.pc_machine.specs.WellFormed.{IsOperand};
+ghost use Rattle.pc_object.specs.Numbers.{HasByteRegisters};
 ghost use Rattle.pc_assembly.specs.Items.{element_here, call_at, computed_on, computed_here, load_here, source_here, assignment_here, store_here, print_at};
 
 use crate::bytes::{Class, after_run, unblank};
@@ -17,7 +19,7 @@ use pc_word::{Item, Operand};
 #[tactic(auto, unfolding(crate::specs::Items::element_here))]
 fn element_here(bytes: &[u8]) -> Result<(u8, Operand, &[u8]), Halt>
     ensures read { IsExact (λ x. (x.0, x.1, x.2.now)) halt_cause result (element_here bytes.now) }
-    ensures bound { IfOk result (λ x. IsByteOperand x.1) }
+    ensures bound { IfOk result (λ x. IsOperand most_registers x.1) }
 {
     let (array, rest) = array_here(bytes)?;
     let rest = mark(Mark::OpenBracket, rest)?;
@@ -39,9 +41,9 @@ fn call(bytes: &[u8]) -> Result<&[u8], Halt>
 #[tactic(auto, unfolding(crate::specs::Items::computed_on))]
 fn computed_on(dest: u32, left: Operand, bytes: &[u8]) -> Result<(Item, &[u8]), Halt>
     requires dest { dest < 256 }
-    requires left { IsByteOperand left }
+    requires left { IsOperand most_registers left }
     ensures read { IsExact (λ x. (x.0, x.1.now)) halt_cause result (computed_on dest left bytes.now) }
-    ensures bound { IfOk result (λ x. IsByteItem x.0) }
+    ensures bound { IfOk result (λ x. HasByteRegisters x.0) }
 {
     if is_end(bytes) {
         return Ok((Item::Copy { dest, from: left }, bytes));
@@ -62,7 +64,7 @@ fn computed_on(dest: u32, left: Operand, bytes: &[u8]) -> Result<(Item, &[u8]), 
 fn computed_here(dest: u32, bytes: &[u8]) -> Result<(Item, &[u8]), Halt>
     requires { dest < 256 }
     ensures read { IsExact (λ x. (x.0, x.1.now)) halt_cause result (computed_here dest bytes.now) }
-    ensures bound { IfOk result (λ x. IsByteItem x.0) }
+    ensures bound { IfOk result (λ x. HasByteRegisters x.0) }
 {
     let (left, rest) = operand_here(bytes)?;
     computed_on(dest, left, unblank(rest))
@@ -72,7 +74,7 @@ fn computed_here(dest: u32, bytes: &[u8]) -> Result<(Item, &[u8]), Halt>
 fn load_here(dest: u32, bytes: &[u8]) -> Result<(Item, &[u8]), Halt>
     requires { dest < 256 }
     ensures read { IsExact (λ x. (x.0, x.1.now)) halt_cause result (load_here dest bytes.now) }
-    ensures bound { IfOk result (λ x. IsByteItem x.0) }
+    ensures bound { IfOk result (λ x. HasByteRegisters x.0) }
 {
     let (array, index, rest) = element_here(bytes)?;
     Ok((Item::Load { dest, array, index }, rest))
@@ -83,7 +85,7 @@ fn load_here(dest: u32, bytes: &[u8]) -> Result<(Item, &[u8]), Halt>
 fn source_here(dest: u32, bytes: &[u8]) -> Result<(Item, &[u8]), Halt>
     requires { dest < 256 }
     ensures read { IsExact (λ x. (x.0, x.1.now)) halt_cause result (source_here dest bytes.now) }
-    ensures bound { IfOk result (λ x. IsByteItem x.0) }
+    ensures bound { IfOk result (λ x. HasByteRegisters x.0) }
 {
     if is_next(Word::Read, bytes) {
         let rest = call(after_run(Class::Letter, bytes))?;
@@ -103,7 +105,7 @@ fn source_here(dest: u32, bytes: &[u8]) -> Result<(Item, &[u8]), Halt>
 #[tactic(auto, unfolding(crate::specs::Items::assignment_here))]
 pub fn assignment_here(bytes: &[u8]) -> Result<(Item, &[u8]), Halt>
     ensures read { IsExact (λ x. (x.0, x.1.now)) halt_cause result (assignment_here bytes.now) }
-    ensures bound { IfOk result (λ x. IsByteItem x.0) }
+    ensures bound { IfOk result (λ x. HasByteRegisters x.0) }
 {
     let (dest, rest) = register_here(bytes)?;
     let rest = mark(Mark::Equals, rest)?;
@@ -113,7 +115,7 @@ pub fn assignment_here(bytes: &[u8]) -> Result<(Item, &[u8]), Halt>
 #[tactic(auto, unfolding(crate::specs::Items::store_here))]
 pub fn store_here(bytes: &[u8]) -> Result<(Item, &[u8]), Halt>
     ensures read { IsExact (λ x. (x.0, x.1.now)) halt_cause result (store_here bytes.now) }
-    ensures bound { IfOk result (λ x. IsByteItem x.0) }
+    ensures bound { IfOk result (λ x. HasByteRegisters x.0) }
 {
     let (array, index, rest) = element_here(bytes)?;
     let rest = mark(Mark::Equals, rest)?;
@@ -130,7 +132,7 @@ pub fn store_here(bytes: &[u8]) -> Result<(Item, &[u8]), Halt>
 #[tactic(auto, unfolding(crate::specs::Items::print_at))]
 pub fn print(bytes: &[u8]) -> Result<(Item, &[u8]), Halt>
     ensures read { IsExact (λ x. (x.0, x.1.now)) halt_cause result (print_at bytes.now) }
-    ensures bound { IfOk result (λ x. IsByteItem x.0) }
+    ensures bound { IfOk result (λ x. HasByteRegisters x.0) }
 {
     let rest = mark(Mark::OpenParenthesis, bytes)?;
     let (value, rest) = operand(rest)?;

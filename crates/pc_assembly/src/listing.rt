@@ -16,11 +16,12 @@ use crate::limits::Header;
 use crate::line::{Content, Line, Totals};
 use crate::names::names_of;
 use crate::part::Part;
-use crate::pushing::{push_notes, push_u16};
+use crate::pushing::push_notes;
 use crate::text::line_start;
 use pc_machine::Leaf;
 use pc_object::{
-    END_BYTES, GOTO_BYTES, Object, ObjectError, TRAP_BYTES, decode, item_bytes, test_bytes,
+    END_BYTES, GOTO_BYTES, Object, ObjectError, TRAP_BYTES, decode, item_bytes, push_u16,
+    test_bytes,
 };
 use pc_word::MOST_OBJECT;
 use std::alloc::Global;

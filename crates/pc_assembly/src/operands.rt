@@ -5,13 +5,15 @@ ghost use Rattle.std.specs.List.{find};
 ghost use Rattle.pc_word.specs.Exact.{IsExact};
 ghost use Rattle.pc_view.specs.Words.{operator_words};
 ghost use Rattle.pc_assembly.specs.models.Causes.{halt_cause};
-ghost use Rattle.pc_assembly.specs.models.Ranges.{IsByteOperand};
+ghost use Rattle.pc_machine.specs.Registers.{most_registers};
+ghost use Rattle.pc_machine.specs.WellFormed.{IsOperand};
 ghost use Rattle.pc_assembly.specs.Operands.{register_here, array_here, negative_here, positive_here, literal_here, operand_here, operand_at, operator_of, operator_here};
 
 use crate::bytes::{Class, after_run, cut_run, unblank};
 use crate::error::{Expected, Halt, unexpected};
 use crate::spelling::Word;
 use crate::words::{is_next, number_here, word_here};
+use pc_view::operator_words;
 use pc_word::{OpCode, Operand};
 
 /// Every operator.
@@ -86,7 +88,7 @@ pub fn literal_here(expected: Expected, bytes: &[u8]) -> Result<(i32, &[u8]), Ha
 #[tactic(auto, unfolding(crate::specs::Operands::operand_here))]
 pub fn operand_here(bytes: &[u8]) -> Result<(Operand, &[u8]), Halt>
     ensures read { IsExact (λ x. (x.0, x.1.now)) halt_cause result (operand_here bytes.now) }
-    ensures bound { IfOk result (λ x. IsByteOperand x.0) }
+    ensures bound { IfOk result (λ x. IsOperand most_registers x.0) }
 {
     if is_next(Word::R, bytes) {
         let (register, rest) = register_here(bytes)?;
@@ -99,32 +101,9 @@ pub fn operand_here(bytes: &[u8]) -> Result<(Operand, &[u8]), Halt>
 /// The same after blanks.
 pub fn operand(bytes: &[u8]) -> Result<(Operand, &[u8]), Halt>
     ensures read { IsExact (λ x. (x.0, x.1.now)) halt_cause result (operand_at bytes.now) }
-    ensures bound { IfOk result (λ x. IsByteOperand x.0) }
+    ensures bound { IfOk result (λ x. IsOperand most_registers x.0) }
 {
     operand_here(unblank(bytes))
-}
-
-/// How an operator is spelled.
-fn operator_words(op: OpCode) -> &'static [u8]
-    ensures { result.now ≡ operator_words op }
-{
-    match op {
-        OpCode::Add => b"+",
-        OpCode::Sub => b"-",
-        OpCode::Mul => b"*",
-        OpCode::Div => b"/",
-        OpCode::Rem => b"%",
-        OpCode::Shl => b"<<",
-        OpCode::Shr => b">>",
-        OpCode::And => b"&",
-        OpCode::Or => b"|",
-        OpCode::Xor => b"^",
-        OpCode::Less => b"<",
-        OpCode::LessEq => b"<=",
-        OpCode::Equal => b"==",
-        OpCode::Unequal => b"!=",
-        OpCode::Below => b"below",
-    }
 }
 
 /// The first of these operators that is spelled so.
@@ -132,7 +111,7 @@ fn first_spelled(ops: &[OpCode], spelling: &[u8]) -> Option<OpCode>
     ensures { result ≡ find (λ op. bytes_eq (operator_words op) spelling.now) ops.now }
 {
     for op in ops {
-        if operator_words(*op) == spelling {
+        if operator_words(*op).as_bytes() == spelling {
             return Some(*op);
         }
     }

@@ -2,13 +2,13 @@
 
 ghost use Rattle.std.specs.Prelude.{◌≡◌, ◌++◌, ◌∷◌, All, IfOk, OnOk};
 ghost use Rattle.std.specs.List.{flat_map};
-ghost use Rattle.pc_object.specs.ObjectText.{u16_text, u32_text, word_text};
+ghost use Rattle.pc_object.specs.ObjectText.{u16_text};
 ghost use Rattle.pc_cert.specs.CertificateText.{source_text, operand_text, fact_text, opening_byte, loop_text, opening_text, step_text, entry_text, certificate_text};
 ghost use Rattle.pc_cert.specs.CertificateText.{IsOpening, IsEntry, IsCertificate};
 ghost use Rattle.pc_cert.specs.Numbers.{SourceFits, OperandFits, FactFits, StepFits, EntryFits, HasNumbers};
 
 use crate::certificate::{Certificate, Entry, Fact, Opening, Source, Step, WindowOperand};
-use byteorder::{BigEndian, ByteOrder};
+use pc_object::{push_u16, push_u32, push_word};
 use pc_word::OutOfMemory;
 use std::alloc::{AllocError, Global};
 
@@ -28,28 +28,6 @@ pub fn write(alloc: Global, certificate: &Certificate) -> Result<Vec<u8>, WriteE
     push_u32(&mut out, entries.len() as u32)?;
     push_entries(&mut out, entries)?;
     Ok(out)
-}
-
-fn push_u16(out: &mut Vec<u8>, number: u16) -> Result<(), AllocError>
-    ensures { OnOk result (out.new.items ≡ out.old.items ++ u16_text number) }
-{
-    let mut field = [0; 2];
-    BigEndian::write_u16(&mut field, number);
-    out.extend_from_slice(&field)
-}
-
-fn push_u32(out: &mut Vec<u8>, number: u32) -> Result<(), AllocError>
-    ensures { OnOk result (out.new.items ≡ out.old.items ++ u32_text number) }
-{
-    let mut field = [0; 4];
-    BigEndian::write_u32(&mut field, number);
-    out.extend_from_slice(&field)
-}
-
-fn push_word(out: &mut Vec<u8>, word: i32) -> Result<(), AllocError>
-    ensures { OnOk result (out.new.items ≡ out.old.items ++ word_text word) }
-{
-    push_u32(out, word.cast_unsigned())
 }
 
 fn push_entries(out: &mut Vec<u8>, entries: &[Entry]) -> Result<(), AllocError>

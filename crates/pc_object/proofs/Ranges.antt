@@ -22,7 +22,7 @@ use Rattle.pc_machine.specs.WellFormed.{IsOperand, IsItem, IsLeaf, IsRow}
 use Rattle.pc_object.specs.declared.object.Object.{Object}
 use Rattle.pc_object.specs.ObjectText.{CodeWithNotes, row_text, item_text, header_text, notes_text, object_of, IsObject}
 use Rattle.pc_object.specs.models.InRange.{IsInRange}
-use Rattle.pc_object.specs.Numbers.{RowNumbersFit, NoteFits, WordsFit, HasWords}
+use Rattle.pc_object.specs.Numbers.{RowNumbersFit, NoteFits, WordsFit, HasWords, HasByteRegisters}
 use Rattle.pc_word.proofs.Lists.{all_front, all_back}
 use Rattle.pc_word.specs.MachineLimits.{most_arrays, most_length}
 use Rattle.pc_machine.specs.Registers.{few_registers, most_registers, IsRegisterCount}
@@ -44,6 +44,16 @@ item_of_more registers arrays more many (Store array index value) le le2 h = (om
 item_of_more registers arrays more many (Print value) le le2 h = operand_of_more registers more value le h
 item_of_more registers arrays more many (Read dest) le le2 h = omega arith
 item_of_more registers arrays more many (More dest) le le2 h = omega arith
+
+-- an item that is in range has registers that are bytes
+pub byte_registers : (arrays : ℕ) (item : Item) → IsItem most_registers arrays item → HasByteRegisters item
+byte_registers arrays (Bin op dest left right) h = h
+byte_registers arrays (Copy dest from) h = h
+byte_registers arrays (Load dest array index) h = (h.0, h.2)
+byte_registers arrays (Store array index value) h = (h.1, h.2)
+byte_registers arrays (Print value) h = h
+byte_registers arrays (Read dest) h = h
+byte_registers arrays (More dest) h = h
 
 leaf_of_more : (few many : ℕ) (leaf : Leaf) → few ≤ many → IsLeaf few leaf → IsLeaf many leaf
 leaf_of_more few many (Goto row) le h = omega arith

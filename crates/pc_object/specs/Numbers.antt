@@ -9,9 +9,21 @@ use Rattle.pc_word.specs.declared.item.Operand.TheVariants.{Name, Lit}
 use Rattle.pc_machine.specs.declared.tree.Leaf.{Leaf}
 use Rattle.pc_machine.specs.declared.tree.Leaf.TheVariants.{Goto, Stop, Trap}
 use Rattle.pc_machine.specs.MachineCode.{CodeRow, RowCode}
+use Rattle.pc_machine.specs.Registers.{most_registers}
+use Rattle.pc_machine.specs.WellFormed.{IsOperand}
 use Rattle.pc_word.specs.Row.{Then, Either, At_leaf}
 use Rattle.pc_object.specs.declared.object.Note.{Note}
 use Rattle.pc_object.specs.ObjectText.{CodeWithNotes}
+
+-- each register of an item is a byte
+abbrev pub HasByteRegisters : Item → Type 0
+HasByteRegisters (Bin op dest left right) = (dest < most_registers) × IsOperand most_registers left × IsOperand most_registers right
+HasByteRegisters (Copy dest from) = (dest < most_registers) × IsOperand most_registers from
+HasByteRegisters (Load dest array index) = (dest < most_registers) × IsOperand most_registers index
+HasByteRegisters (Store array index value) = IsOperand most_registers index × IsOperand most_registers value
+HasByteRegisters (Print value) = IsOperand most_registers value
+HasByteRegisters (Read dest) = dest < most_registers
+HasByteRegisters (More dest) = dest < most_registers
 
 -- a literal is a word
 abbrev pub OperandFits : Operand → Type 0

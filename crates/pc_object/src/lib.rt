@@ -13,6 +13,7 @@ mod sizes;
 mod storage;
 mod tag;
 mod version;
+mod writing;
 
 pub use decoding::decode;
 pub use encoding::{EncodeError, encode};
@@ -26,4 +27,8 @@ pub use sizes::{
     COUNT_BYTES, END_BYTES, GOTO_BYTES, HEADER_BYTES, LENGTH_BYTES, NOTE_BYTES, TRAP_BYTES,
     item_bytes, operand_bytes, test_bytes,
 };
-pub use version::Version;
+pub use version::{Version, version_for};
+pub use writing::{
+    push_data, push_item, push_leaf, push_lengths, push_note, push_operand, push_u16, push_u32,
+    push_version, push_word,
+};

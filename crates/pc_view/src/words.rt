@@ -38,7 +38,7 @@ pub(crate) struct LeafWords {
 }
 
 /// An operator as C writes it; C has no `below`.
-fn operator_words(op: OpCode) -> &'static str
+pub fn operator_words(op: OpCode) -> &'static str
     ensures { result.now ≡ operator_words op }
 {
     match op {

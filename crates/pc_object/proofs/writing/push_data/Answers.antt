@@ -2,7 +2,7 @@ use Rattle.std.proofs.Common.{rules, arith, w32, SFits, pos}
 use Rattle.std.specs.Prelude.{FitsSigned, slice_index_or}
 use Rattle.std.proofs.lemmas.Grind.{common_steps}
 use Rattle.std.proofs.lemmas.List.Elements.{All-more}
-use Rattle.pc_object.proofs.encoding.push_data.Goals as goal
+use Rattle.pc_object.proofs.writing.push_data.Goals as goal
 
 pub loop-word-preserved : goal.loop-word-preserved
 loop-word-preserved c =
