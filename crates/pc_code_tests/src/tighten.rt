@@ -1,77 +1,23 @@
 //! Rows that are made compact.
 
-use pc_machine::{Code, FEW_REGISTERS, Leaf, Tree, TreeList, well_formed};
+use pc_machine::well_formed;
+use pc_specimen::{End, code, rows_text};
 use pc_tighten::{TightenError, tighten};
-use pc_word::{Item, LengthList, Limits, Operand, RowTree, no_data};
-use std::alloc::{AllocError, Global};
+use pc_word::{Item, Operand};
+use std::alloc::Global;
 use std::test::Fail;
 
-/// The end of a row.
-#[derive(Clone, Copy)]
-enum End {
-    Goto(u32),
-    Stop,
-    /// A test of register 9 with a goto on each side.
-    Fork(u32, u32),
-}
-
-/// A goto alone.
-fn goto(row: u32) -> Tree {
-    RowTree::Leaf {
-        leaf: Leaf::Goto { row },
-    }
-}
-
-/// A row of items and an end.
-fn row(alloc: Global, items: &[Item], end: End) -> Result<Tree, AllocError> {
-    let mut tree = match end {
-        End::Goto(row) => goto(row),
-        End::Stop => RowTree::Leaf { leaf: Leaf::Stop },
-        End::Fork(yes, no) => RowTree::Test {
-            on: Operand::Name(9),
-            yes: Box::new(alloc, goto(yes))?,
-            no: Box::new(alloc, goto(no))?,
-        },
-    };
-    for item in items.iter().rev() {
-        let next = Box::new(alloc, tree)?;
-        tree = RowTree::Step { item: *item, next };
-    }
-    Ok(tree)
-}
-
-/// A code of limits 3, 2, 2 and two arrays.
-fn code(alloc: Global, rows: &[(&[Item], End)]) -> Result<Code, AllocError> {
-    let mut trees = TreeList::new(alloc);
-    for (items, end) in rows.iter() {
-        trees.push(row(alloc, items, *end)?)?;
-    }
-    Ok(Code {
-        limits: Limits {
-            ops: 3,
-            tests: 2,
-            mem: 2,
-        },
-        registers: FEW_REGISTERS as u16,
-        arrays: LengthList::from_slice(alloc, &[8, 8])?,
-        initial: no_data(alloc, 2)?,
-        rows: trees,
-    })
-}
+/// The lengths of two arrays.
+const ARRAYS: [u32; 2] = [8, 8];
 
 /// The text of the rows of a code once it is tightened, if it is well formed.
 fn tightened(alloc: Global, rows: &[(&[Item], End)]) -> Result<Option<String>, TightenError> {
-    let code = code(alloc, rows)?;
+    let code = code(alloc, &ARRAYS, rows)?;
     if well_formed(&code).is_some() {
         return Ok(None);
     }
     let code = tighten(alloc, code)?;
-    Ok(Some(text(alloc, &code)?))
-}
-
-/// The text of the rows of a code.
-fn text(alloc: Global, code: &Code) -> Result<String, AllocError> {
-    format!(in alloc; "{:?}", code.rows.as_slice())
+    Ok(Some(rows_text(alloc, &code)?))
 }
 
 const A: Item = Item::Copy {
@@ -249,7 +195,7 @@ fn codes(rt: HostRuntime) -> Result<(), Fail> {
     let alloc = rt.alloc();
     for (i, (before, after)) in CODES.iter().enumerate() {
         let found = tightened(alloc, before)?;
-        let due = text(alloc, &code(alloc, after)?)?;
+        let due = rows_text(alloc, &code(alloc, &ARRAYS, after)?)?;
         assert!(rt;
             found.as_ref().map(|text| text.as_str()) == Some(due.as_str()),
             "code {i}: {found:?}"

@@ -1,8 +1,9 @@
 //! What runs cost. The numbers were counted by hand, by following each run from row to row.
 
-use crate::vm::{chain, code_of};
+use crate::vm::code_of;
 use pc_count::{Profile, Work, copy_cycles, run_profile, work_of};
 use pc_machine::{Leaf, TreeList, well_formed};
+use pc_specimen::chain;
 use pc_vm::{Machine, Outcome};
 use pc_word::{End, Item, MOST_CYCLES, MachineFault, OpCode, Operand, RowTree, WordList};
 use std::alloc::{AllocError, Global};

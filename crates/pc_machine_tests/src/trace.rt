@@ -1,8 +1,9 @@
 //! What the cycles of a run did, as text. The lines were written by hand, by following each run from row to row.
 
 use crate::count::{fault_rows, sum_rows};
-use crate::vm::{chain, code_of};
+use crate::vm::code_of;
 use pc_machine::{Leaf, TreeList, well_formed};
+use pc_specimen::chain;
 use pc_trace::{laws_of_traces, trace_text};
 use pc_vm::Machine;
 use pc_word::{Item, OpCode, Operand, RowTree, TrapKind, WordList};

@@ -2,6 +2,7 @@
 
 use pc_machine::{Code, FEW_REGISTERS, Leaf, MOST_REGISTERS, Tree, TreeList, well_formed};
 use pc_outside::SureSink;
+use pc_specimen::chain;
 use pc_vm::{Machine, Outcome, RunError};
 use pc_word::{
     DataList, End, Item, LengthList, Limits, MachineFault, OpCode, Operand, RowTree, TrapKind,
@@ -15,18 +16,6 @@ use std::test::Fail;
 struct Shown {
     text: Vec<u8>,
     answer: Result<Outcome, RunError>,
-}
-
-/// The items one after the other, and then a leaf.
-pub(crate) fn chain(alloc: Global, items: &[Item], leaf: Leaf) -> Result<Tree, AllocError> {
-    let mut tree = RowTree::Leaf { leaf };
-    for item in items.iter().rev() {
-        tree = RowTree::Step {
-            item: *item,
-            next: Box::new(alloc, tree)?,
-        };
-    }
-    Ok(tree)
 }
 
 /// Rows that each lead to the next; the last one stops.

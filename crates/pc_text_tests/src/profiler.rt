@@ -1,9 +1,10 @@
 //! Each status of the profiler, with its line.
 
-use crate::view::{SUM, SUM_SHADED, SUM_TALLIED};
+use crate::view::{SUM_SHADED, SUM_TALLIED};
 use crate::words::words_of;
 use pc_outside::{CallList, MemoryShelf, MemorySink, MemorySource};
 use pc_profiler::{laws_of_the_profiler, profile};
+use pc_specimen::SUM;
 use std::alloc::{AllocError, Global};
 use std::test::Fail;
 
