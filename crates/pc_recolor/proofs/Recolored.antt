@@ -10,6 +10,7 @@ use Rattle.pc_tighten.specs.Tightened.{EachIsReachable, IsTightened}
 use Rattle.pc_renaming.specs.declared.witness.RowWitness.{RowWitness}
 use Rattle.pc_renaming.specs.Witness.{renaming_of}
 use Rattle.pc_renaming.specs.IsRenamed.{AreRenamed, IsRenamed}
+use Rattle.pc_settled.specs.Settled.{Settled}
 use Rattle.pc_recolor.specs.Recolored.{IsRecolored, IsRecoloredAndTightened}
 use Rattle.pc_recolor.specs.models.Recoloring.{AreAnew, with_rows}
 use Rattle.pc_renaming.proofs.Steps.{renaming_keeps_the_run}
@@ -18,10 +19,10 @@ use Rattle.pc_renaming.proofs.Form.{renaming_keeps_form}
 -- rows that were made, and of which this is found; `after` are read of what was made
 pub rows_are_anew : (registers most : ℕ) (told : List RowWitness) (before after made : List (RowTree Leaf)) → after ≡ made
     → AreRenamed registers (renaming_of told) (rows_of before) (rows_of after) → EachIsReachable (rows_of after)
-    → length (flat_map row_text (rows_of after)) ≤ most → AreAnew registers most (rows_of before) (rows_of made)
-rows_are_anew registers most told before after made same renamed reachable short =
+    → length (flat_map row_text (rows_of after)) ≤ most → Settled (rows_of after) → AreAnew registers most (rows_of before) (rows_of made)
+rows_are_anew registers most told before after made same renamed reachable short settled =
     subst (λ (rows : List (RowTree Leaf)). AreAnew registers most (rows_of before) (rows_of rows)) same
-    (record { renaming = renaming_of told; renamed = renamed; reachable = reachable; short = short })
+    (record { renaming = renaming_of told; renamed = renamed; reachable = reachable; short = short; settled = settled })
 
 -- a code as it was
 left_as_it_was : (most : ℕ) (code : RowCode) → IsRecolored most code code
@@ -42,7 +43,7 @@ pub code_is_recolored : (most : ℕ) (before after : RowCode) (rows : List CodeR
     → IsRecolored most before after
 code_is_recolored most before after rows is anew =
     subst (λ (code : RowCode). IsRecolored most before code) (sym is) (record {
-      does = inr (anew.renaming, renamed);
+      does = inr (anew.renaming, renamed, anew.settled);
       limits = refl;
       registers = refl;
       arrays = refl;

@@ -8,11 +8,13 @@ use Rattle.pc_object.specs.ObjectText.{row_text}
 use Rattle.pc_tighten.specs.Tightened.{EachIsReachable, IsTightened}
 use Rattle.pc_renaming.specs.Renaming.{Renaming}
 use Rattle.pc_renaming.specs.IsRenamed.{IsRenamed}
+use Rattle.pc_settled.specs.Settled.{Settled}
 
 -- the code after its registers were chosen anew, where its rows may be written in so many bytes
 pub record IsRecolored (most : ℕ) (before after : RowCode) : Type 0 where
-  -- it is the code before, or does it with other registers
-  pub does : (after ≡ before) ⊎ ((renaming : Renaming) × IsRenamed renaming before after)
+  -- it is the code before, or does it with other registers, and then no row of copies keeps a copy whose source's
+  -- web and destination's web are never held together
+  pub does : (after ≡ before) ⊎ ((renaming : Renaming) × IsRenamed renaming before after × Settled after.rows)
   pub limits : after.limits ≡ before.limits
   pub registers : after.registers ≡ before.registers
   pub arrays : after.arrays ≡ before.arrays

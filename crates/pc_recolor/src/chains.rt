@@ -1,9 +1,9 @@
 //! How far values are handed on in loops, from one register to another.
 use crate::branches::is_row_of_copies;
-use crate::nodes::node_below;
 use crate::painting::Merged;
 use crate::phases::{MOST_PHASES, Phased};
 use pc_machine::Tree;
+use pc_settled::node_below;
 use pc_word::{Item, Operand, RowTree};
 use std::alloc::{AllocError, Global};
 

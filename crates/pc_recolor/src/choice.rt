@@ -86,7 +86,7 @@ impl Choice {
     }
 
     /// Whether no more phases are to be tried for any loop.
-    pub(crate) fn is_settled(&self) -> bool {
+    pub(crate) fn is_done(&self) -> bool {
         for number in 0..self.kept.len() {
             if self.is_open(number) {
                 return false;

@@ -5,15 +5,12 @@ mod branches;
 mod chains;
 mod choice;
 mod exits;
-mod liveness;
 mod loops;
 mod naming;
-mod nodes;
 mod pace;
 mod painting;
 mod phases;
 mod recoloring;
-mod register_set;
 mod size;
 mod webs;
 

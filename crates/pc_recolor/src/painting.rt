@@ -1,11 +1,11 @@
 //! Rows with the registers that their webs have.
-use crate::liveness::{Liveness, liveness_of};
-use crate::nodes::{NodeSets, node_below, node_sets};
 use crate::phases::Phased;
-use crate::register_set::RegisterSet;
-use crate::webs::{Webs, count_leaves, set_at};
+use crate::webs::{Webs, set_at};
 use pc_machine::{Tree, TreeList};
 use pc_renaming::{Holding, RowWitness, only_gives};
+use pc_settled::{
+    Liveness, NodeSets, RegisterSet, count_leaves, liveness_of, node_below, node_sets,
+};
 use pc_word::{Item, Operand, OutOfMemory, RowTree, Seq};
 use std::alloc::{AllocError, Global};
 

@@ -17,24 +17,35 @@ use crate::phases::{MOST_PHASES, Phased, in_phases};
 use crate::size::fit;
 use pc_machine::{Code, Tree, TreeList};
 use pc_renaming::is_renaming;
+use pc_settled::is_settled;
 use pc_tighten::tighten;
 use pc_word::{DataList, LengthList, OutOfMemory, WordList};
 use std::alloc::{AllocError, Global};
 
-/// Whether made rows do others, each of them is reachable, and they are written in so many bytes.
+/// Whether made rows do others, each of them is reachable, they are written in so many bytes, and they are settled.
 #[tactic(auto, using(crate::proofs::Recolored::made_laws))]
-fn is_made(registers: u16, most: usize, rows: &[Tree], made: &Made) -> bool
-    ensures { result ≡ true → AreAnew registers most (rows_of rows.now) (rows_of made.now.rows) }
+fn is_made(
+    alloc: Global,
+    registers: u16,
+    most: usize,
+    rows: &[Tree],
+    made: &Made,
+) -> Result<bool, OutOfMemory>
+    ensures { IfOk result (λ taken. taken ≡ true → AreAnew registers most (rows_of rows.now) (rows_of made.now.rows)) }
 {
     let after = made.rows.as_slice();
     if !fit(after, most) || !are_named_in_order(after) {
-        return false;
+        return Ok(false);
     }
-    is_renaming(registers, &made.told, rows, after)
+    if !is_renaming(registers, &made.told, rows, after) {
+        return Ok(false);
+    }
+    let settled = is_settled(alloc, after)?;
+    Ok(settled)
 }
 
 /// Rows that do these with other registers, of so many, in so many bytes, as they stand in phases; `None` where the registers
-/// or the bytes do not suffice, or the checker refuses what was made.
+/// or the bytes do not suffice, or what was made does not do the rows or is not settled.
 fn rows_anew(
     alloc: Global,
     registers: u16,
@@ -47,7 +58,7 @@ fn rows_anew(
 {
     match painted_rows(alloc, registers, phased, merged)? {
         Some(made) => {
-            if is_made(registers, most, rows, &made) {
+            if is_made(alloc, registers, most, rows, &made)? {
                 let Made { rows, told } = made;
                 drop(told);
                 Ok(Some(rows))
@@ -217,7 +228,7 @@ fn best(
     let mut best = first;
     for _turn in 2..=MOST_PHASES {
         let trial = choice.trial(alloc)?;
-        if choice.is_settled() || most_phases(&trial) > most_tried {
+        if choice.is_done() || most_phases(&trial) > most_tried {
             break;
         }
         let Some(found) = attempt(alloc, code, most, shape, &trial)? else {
@@ -267,10 +278,11 @@ fn is_no_slower(
 }
 
 /// The code with registers chosen anew over its rows, so that the values of a copy share one where they may, and
-/// without such copies and without items that nothing needs, and tightened then; no clause says which these are. Loops that
-/// keep rows of copies stand in several phases, as in modulo variable expansion (Lam 1988), where that takes at least half
-/// of them away. It is only tightened where the registers do not suffice, where its rows would have more than `most` bytes,
-/// where the checker refuses what was made, or where an innermost loop would take more cycles than without.
+/// without such copies and without items that nothing needs, and tightened then. Before it is tightened no row of copies
+/// has a copy left whose source's web and destination's web are never held together; no clause says what else goes. Loops
+/// that keep rows of copies stand in several phases, as in modulo variable expansion (Lam 1988), where that takes at least
+/// half of them away. It is only tightened where the registers do not suffice, where its rows would have more than `most` bytes,
+/// where a checker refuses what was made, or where an innermost loop would take more cycles than without.
 ///
 /// `Memory` is the only error.
 pub fn recolor_and_tighten(alloc: Global, code: Code, most: usize) -> Result<Code, OutOfMemory>
@@ -298,11 +310,11 @@ pub fn recolor_and_tighten(alloc: Global, code: Code, most: usize) -> Result<Cod
 pub enum Verdict {
     /// The registers do not suffice, so nothing is made.
     NotMade,
-    /// The checker takes them.
+    /// The checkers take them.
     Taken,
-    /// The checker refuses them. If the code is well formed, and the witness has an entry for each row, then they do not do
-    /// its rows by the witness, or leaves do not name them in the order of their numbers. `recolor_and_tighten` would leave
-    /// the code the registers that it has.
+    /// The checkers refuse them. If the code is well formed, and the witness has an entry for each row, then they do not do
+    /// its rows by the witness, or leaves do not name them in the order of their numbers, or they are not found settled.
+    /// `recolor_and_tighten` would leave the code the registers that it has.
     Refused,
 }
 
@@ -322,7 +334,7 @@ pub fn judge(alloc: Global, code: &Code, phases: u8) -> Result<Verdict, OutOfMem
         Some(made) => {
             let after = made.rows.as_slice();
             let does = is_renaming(code.registers, &made.told, rows, after);
-            if does && are_named_in_order(after) {
+            if does && are_named_in_order(after) && is_settled(alloc, after)? {
                 Ok(Verdict::Taken)
             } else {
                 Ok(Verdict::Refused)

@@ -1,70 +1,12 @@
 //! Rows whose registers are chosen anew.
 
-use pc_machine::{Code, FEW_REGISTERS, Leaf, Tree, TreeList, well_formed};
+use pc_machine::well_formed;
 use pc_recolor::recolor_and_tighten;
-use pc_word::{Item, LengthList, Limits, OpCode, Operand, OutOfMemory, RowTree, no_data};
-use std::alloc::{AllocError, Global};
+use pc_settled::is_settled;
+use pc_specimen::{End, code, rows_text};
+use pc_word::{Item, OpCode, Operand, OutOfMemory};
+use std::alloc::Global;
 use std::test::Fail;
-
-/// The end of a row.
-#[derive(Clone, Copy)]
-enum End {
-    Goto(u32),
-    Stop,
-    /// A goto, in a row that ends the run where a register is 0, and does nothing then.
-    GotoUnless(u32, u32),
-}
-
-/// A row of items and an end.
-fn row(alloc: Global, items: &[Item], end: End) -> Result<Tree, AllocError> {
-    match end {
-        End::Goto(row) => steps(alloc, items, Leaf::Goto { row }),
-        End::Stop => steps(alloc, items, Leaf::Stop),
-        End::GotoUnless(register, row) => {
-            let yes = steps(alloc, items, Leaf::Goto { row })?;
-            let no = RowTree::Leaf { leaf: Leaf::Stop };
-            Ok(RowTree::Test {
-                on: Operand::Name(register),
-                yes: Box::new(alloc, yes)?,
-                no: Box::new(alloc, no)?,
-            })
-        }
-    }
-}
-
-/// Items and a leaf.
-fn steps(alloc: Global, items: &[Item], leaf: Leaf) -> Result<Tree, AllocError> {
-    let mut tree = RowTree::Leaf { leaf };
-    for item in items.iter().rev() {
-        let next = Box::new(alloc, tree)?;
-        tree = RowTree::Step { item: *item, next };
-    }
-    Ok(tree)
-}
-
-/// A code of limits 3, 2, 2 and one array.
-fn code(alloc: Global, rows: &[(&[Item], End)]) -> Result<Code, AllocError> {
-    let mut trees = TreeList::new(alloc);
-    for (items, end) in rows.iter() {
-        trees.push(row(alloc, items, *end)?)?;
-    }
-    Ok(Code {
-        limits: Limits {
-            ops: 3,
-            tests: 2,
-            mem: 2,
-        },
-        registers: FEW_REGISTERS as u16,
-        arrays: LengthList::from_slice(alloc, &[8])?,
-        initial: no_data(alloc, 1)?,
-        rows: trees,
-    })
-}
-
-/// The text of the rows of a code.
-fn text(alloc: Global, code: &Code) -> Result<String, AllocError> {
-    format!(in alloc; "{:?}", code.rows.as_slice())
-}
 
 /// Whether rows are well formed, and with registers chosen anew and tightened are these.
 fn gives(
@@ -72,13 +14,20 @@ fn gives(
     rows: &[(&[Item], End)],
     due: &[(&[Item], End)],
 ) -> Result<bool, OutOfMemory> {
-    let before = code(alloc, rows)?;
+    let before = code(alloc, &[8], rows)?;
     if well_formed(&before).is_some() {
         return Ok(false);
     }
     let made = recolor_and_tighten(alloc, before, 1000)?;
-    let wanted = code(alloc, due)?;
-    Ok(text(alloc, &made)? == text(alloc, &wanted)?)
+    let wanted = code(alloc, &[8], due)?;
+    Ok(rows_text(alloc, &made)? == rows_text(alloc, &wanted)?)
+}
+
+/// Whether rows are found settled as they stand.
+fn are_settled(alloc: Global, rows: &[(&[Item], End)]) -> Result<bool, OutOfMemory> {
+    let code = code(alloc, &[8], rows)?;
+    let settled = is_settled(alloc, code.rows.as_slice())?;
+    Ok(settled)
 }
 
 const SET_FOUR_TO_ONE: Item = Item::Copy {
@@ -322,6 +271,15 @@ static CODES: [(&[(&[Item], End)], &[(&[Item], End)]); 4] = [
 fn registers_are_chosen_anew(rt: HostRuntime) -> Result<(), Fail> {
     for (rows, due) in CODES.iter() {
         assert!(&rt; gives(rt.alloc(), rows, due) == Ok(true));
+    }
+    Ok(())
+}
+
+/// The copy of the first code could go, and those of the others could not.
+#[test]
+fn copies_that_could_go_are_found(rt: HostRuntime) -> Result<(), Fail> {
+    for (number, (rows, _due)) in CODES.iter().enumerate() {
+        assert!(&rt; are_settled(rt.alloc(), rows) == Ok(number > 0));
     }
     Ok(())
 }

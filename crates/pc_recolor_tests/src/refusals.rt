@@ -1,4 +1,4 @@
-//! Codes that are made of numbers: of each of them rows with other registers are made, and the checker takes them all.
+//! Codes that are made of numbers: of each of them rows with other registers are made, and the checkers take them all.
 
 use pc_machine::{Code, FEW_REGISTERS, Leaf, Tree, TreeList, well_formed};
 use pc_recolor::{Verdict, judge};
@@ -159,7 +159,7 @@ fn code(alloc: Global, number: u32) -> Result<Code, AllocError> {
     })
 }
 
-/// How many numbers of phases of a code's loops there are, from one to four, with which rows are made that the checker takes.
+/// How many numbers of phases of a code's loops there are, from one to four, with which rows are made that the checkers take.
 fn taken(alloc: Global, code: &Code) -> Result<u32, OutOfMemory> {
     let mut count: u32 = 0;
     for phases in 1..=4 {
@@ -171,7 +171,7 @@ fn taken(alloc: Global, code: &Code) -> Result<u32, OutOfMemory> {
     Ok(count)
 }
 
-/// With each number of phases rows are made of these codes, and the checker refuses none of them.
+/// With each number of phases rows are made of these codes, and the checkers refuse none of them.
 #[test]
 fn nothing_is_refused(rt: HostRuntime) -> Result<(), Fail> {
     let alloc = rt.alloc();

@@ -7,18 +7,20 @@ use Rattle.pc_object.specs.ObjectText.{row_text}
 use Rattle.pc_tighten.specs.Tightened.{EachIsReachable}
 use Rattle.pc_renaming.specs.Renaming.{Renaming}
 use Rattle.pc_renaming.specs.IsRenamed.{AreRenamed}
+use Rattle.pc_settled.specs.Settled.{Settled}
 
 -- where the rows up to a number were named already, those up to another are named once this row is seen, which leads to them
 pub record Names (row : CodeRow) (known after : ℕ) : Type 0 where
   pub more : known ≤ after
   pub leads : (number : ℕ) → known ≤ number → number < after → HasLeafTo row number
 
--- rows that do others with other registers, of so many, each of them reachable, in so many bytes
+-- rows that do others with other registers, of so many, each of them reachable, in so many bytes, and settled
 pub record AreAnew (registers most : ℕ) (before after : List CodeRow) : Type 0 where
   pub renaming : Renaming
   pub renamed : AreRenamed registers renaming before after
   pub reachable : EachIsReachable after
   pub short : length (flat_map row_text after) ≤ most
+  pub settled : Settled after
 
 -- a code with other rows
 abbrev pub with_rows : RowCode → List CodeRow → RowCode

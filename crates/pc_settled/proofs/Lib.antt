@@ -1,0 +1,4 @@
+pub mod Bits
+pub mod Needs
+pub mod Webs
+pub mod Holding
