@@ -58,7 +58,11 @@ pub(crate) fn may_be_filled(window: &Window) -> bool
 
 /// Whether a window may be unwound.
 #[tactic(auto, using(crate::proofs::Unwound::small_windows))]
-fn may_be_unwound(alloc: Global, table: &RegionTable, window: &Window) -> Result<bool, AllocError>
+pub(crate) fn may_be_unwound(
+    alloc: Global,
+    table: &RegionTable,
+    window: &Window,
+) -> Result<bool, AllocError>
     ensures { IfOk result (λ may. may ≡ true → CanUnwind (table_of table.now) (window_in window.now)) }
 {
     if !may_be_filled(window) {

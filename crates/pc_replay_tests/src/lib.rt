@@ -1,7 +1,9 @@
-//! Tests of filling against single moves: the windows of regions and of programs, filled at once and replayed, and those of a
-//! loop against windows that were worked out by hand.
+//! Tests of steps of windows: filling against single moves, for regions and for programs; plain windows against shared ones;
+//! what is kept once of a shared one; and a loop's windows against those that were worked out by hand.
 #![tactic(auto)]
 
+#[cfg(test)]
+mod both_ways;
 #[cfg(test)]
 mod bounds;
 #[cfg(test)]
@@ -19,7 +21,11 @@ mod programs;
 #[cfg(test)]
 mod replay;
 #[cfg(test)]
+mod sharing;
+#[cfg(test)]
 mod sources;
+#[cfg(test)]
+mod steps;
 #[cfg(test)]
 mod tables;
 #[cfg(test)]

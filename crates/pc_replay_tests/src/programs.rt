@@ -20,16 +20,16 @@ use std::alloc::Global;
 use std::test::Fail;
 
 /// The most windows of a region: its first one, and those that follow at all leaves.
-const MOST_WINDOWS: u32 = 256;
+const MOST_WINDOWS: u32 = 128;
 
 /// So many windows of sources, at least, are changed by filling.
 const LEAST_CHANGED: u32 = 100;
 
 /// So many samples are filled: the first ones.
-const SAMPLES: u32 = 21;
+pub(crate) const SAMPLES: u32 = 21;
 
 /// What fits into a row, if nothing else is asked for.
-fn wide() -> Limits
+pub(crate) fn wide() -> Limits
     ensures { AreLimits result }
 {
     Limits {
@@ -40,7 +40,7 @@ fn wide() -> Limits
 }
 
 /// Half of it and less.
-fn narrow() -> Limits
+pub(crate) fn narrow() -> Limits
     ensures { AreLimits result }
 {
     Limits {
@@ -51,7 +51,7 @@ fn narrow() -> Limits
 }
 
 /// The regions of a source.
-fn regions_of(alloc: Global, text: &[u8]) -> Result<RegionTable, Fail> {
+pub(crate) fn regions_of(alloc: Global, text: &[u8]) -> Result<RegionTable, Fail> {
     if text.len() > MOST_SOURCE {
         Err(ReplayError::TooLarge)?;
     }

@@ -272,7 +272,7 @@ fn is_worked(alloc: Global, window: &Window, worked: &str) -> Result<bool, Alloc
 }
 
 /// What is left at the first leaf of a row at which a window is left.
-fn first_rest(row: RowTree<Left>) -> Option<Window>
+pub(crate) fn first_rest(row: RowTree<Left>) -> Option<Window>
     requires nodes { EachLeaf LeftInNodes row }
     requires proper { EachLeft IsProper (row_in left_in row) }
     ensures nodes { IfSome result (λ window. InNodes true window.tree) }

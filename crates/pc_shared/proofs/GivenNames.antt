@@ -8,7 +8,7 @@ use Rattle.pc_word.specs.declared.item.Item.TheVariants.{Bin, Copy, Load, Store,
 use Rattle.pc_word.specs.Items.{dest_of}
 use Rattle.pc_word.specs.Commit.{writes}
 use Rattle.pc_word.proofs.Lists.{all_both, all_imply}
-use Rattle.pc_word.proofs.Truth.{or_made_false, or_second, or_false}
+use Rattle.pc_word.proofs.Truth.{or_made_false, or_first, or_second, or_false}
 use Rattle.pc_linear.specs.Form.{Form}
 use Rattle.pc_window.specs.Names.{IsNew, Scoped, and_dest}
 use Rattle.pc_window.specs.Opening.{Supply, FormBelow, ItemBelow, TreeBelow}
@@ -22,7 +22,7 @@ use Rattle.pc_shared.specs.NodeTree.{NodeTree, plain_tree}
 use Rattle.pc_shared.specs.Merging.{definition_of}
 use Rattle.pc_shared.specs.models.Renaming.{renamed_item}
 use Rattle.pc_shared.specs.models.Merges.{FirstFree, none_given, this_one, a_later, Giving, one_more, Chooses, its_own, a_new, GivesName, given_before, given_now}
-use Rattle.pc_shared.specs.models.Merges.{Merges, merges_item, merges_definition, merges_test, merges_leaf, merges_stub, merges_end, merges_trap}
+use Rattle.pc_shared.specs.models.Merges.{is_taken, Merges, merges_item, merges_definition, merges_test, merges_leaf, merges_stub, merges_end, merges_trap}
 use Rattle.pc_shared.proofs.Renamed.{Renamed, renamed_plain, renamed_given, renamed_test, renamed_leaf, renamed_stub, renamed_end, renamed_trap, new_scope}
 
 -- ---- what is given later
@@ -49,10 +49,10 @@ later_again g m h one other = record {
   given = other.given ∙ ap (λ (list : List Given). list ++ other.more) one.given ∙ appended g.given one.more other.more;
 }
 
-chosen_next : {above : List ℕ} {old : ℕ} {form : Form} {names : Supply} {name : ℕ} {names' : Supply} → Chooses above old form names name names'
+chosen_next : {given : List Given} {above : List ℕ} {old : ℕ} {form : Form} {names : Supply} {name : ℕ} {names' : Supply} → Chooses given above old form names name names'
     → (names.next ≤ names'.next) × ((x : ℕ) → x < names.next → names'.forms x ≡ names.forms x)
-chosen_next (its_own apart) = (omega arith, λ x lt. refl)
-chosen_next {above} {old} {form} {names} a_new =
+chosen_next (its_own taken apart) = (omega arith, λ x lt. refl)
+chosen_next {given} {above} {old} {form} {names} a_new =
     (omega arith, λ x lt. ap (λ (b : Bool). if b then form else names.forms x) (nat_eq-less names.next x lt))
 
 gives_later : {pairs : List Pair} {old : ℕ} {d : Definition} {g : Giving} {name : ℕ} {h : Giving} → GivesName pairs old d g name h → IsLater g h
@@ -72,7 +72,7 @@ merges_later (merges_trap {pairs} {g}) = later_same g
 -- no more names are new than there are items and tests
 gives_next : {pairs : List Pair} {old : ℕ} {d : Definition} {g : Giving} {name : ℕ} {h : Giving} → GivesName pairs old d g name h → h.names.next ≤ suc g.names.next
 gives_next (given_before free) = omega arith
-gives_next (given_now none (its_own apart)) = omega arith
+gives_next (given_now none (its_own taken apart)) = omega arith
 gives_next (given_now none a_new) = omega arith
 
 pub few_new : {pairs : List Pair} {g h : Giving} {t t' : NodeTree} → Merges pairs g t h t' → h.names.next ≤ g.names.next + tree_size (plain_tree t)
@@ -98,6 +98,44 @@ now_free name none_given e apart = this_one refl apart
 now_free name (this_one same free) e apart = absurd (cc)
 now_free name (a_later taken free) e apart = a_later taken (now_free name free e apart)
 
+-- ---- each name is given once
+
+abbrev pub AreOnce : List Given → Type 0
+AreOnce [] = Unit {0}
+AreOnce (one ∷ more) = (is_taken one.name more ≡ false) × AreOnce more
+
+turned : (x y : ℕ) → nat_eq x y ≡ false → nat_eq y x ≡ false
+turned x y e = grind (arith, e)
+
+not_more_taken : (x : ℕ) (given : List Given) (d : Definition) (name : ℕ) → is_taken x given ≡ false → nat_eq x name ≡ false → is_taken x (one_more given d name) ≡ false
+not_more_taken x [] d name none apart = or_made_false (nat_eq x name) false apart refl
+not_more_taken x (one ∷ more) d name none apart =
+    let p = or_false (nat_eq x one.name) (is_taken x more) none in
+    or_made_false (nat_eq x one.name) (is_taken x (one_more more d name)) p.0 (not_more_taken x more d name p.1 apart)
+
+once_more : (given : List Given) (d : Definition) (name : ℕ) → AreOnce given → is_taken name given ≡ false → AreOnce (one_more given d name)
+once_more [] d name once none = (refl, tt)
+once_more (one ∷ more) d name once none =
+    let p = or_false (nat_eq name one.name) (is_taken name more) none in
+    (not_more_taken one.name more d name once.0 (turned name one.name p.0), once_more more d name once.1 p.1)
+
+found_taken : {above : List ℕ} {d : Definition} {given : List Given} {found : Option ℕ} (name : ℕ) → FirstFree above d given found → found ≡ Some name → is_taken name given ≡ true
+found_taken name none_given e = absurd (cc)
+found_taken name (this_one {one} {more} same apart) e =
+    let is : name ≡ one.name = cc in or_first (nat_eq name one.name) (is_taken name more) (ap (λ (n : ℕ). nat_eq name n) (sym is) ∙ nat_eq-same name)
+found_taken name (a_later {one} {more} taken free) e = or_second (nat_eq name one.name) (is_taken name more) (found_taken name free e)
+
+-- what was given one name is one definition
+pub one_definition : {above other : List ℕ} {d d' : Definition} {given : List Given} {found found' : Option ℕ} (name : ℕ) → AreOnce given → FirstFree above d given found
+    → FirstFree other d' given found' → found ≡ Some name → found' ≡ Some name → d ≡ d'
+one_definition name once none_given free' e e' = absurd (cc)
+one_definition name once (this_one same apart) (this_one same' apart') e e' = sym same ∙ same'
+one_definition name once (this_one {one} {more} same apart) (a_later taken free) e e' =
+    let is : name ≡ one.name = cc in absurd (let there = found_taken name free e' in let none = ap (λ (n : ℕ). is_taken n more) is ∙ once.0 in cc)
+one_definition name once (a_later {one} {more} taken free) (this_one same apart) e e' =
+    let is : name ≡ one.name = cc in absurd (let there = found_taken name free e in let none = ap (λ (n : ℕ). is_taken n more) is ∙ once.0 in cc)
+one_definition name once (a_later taken free) (a_later taken' free') e e' = one_definition name once.1 free free' e e'
+
 -- ---- names that are given are sound
 
 module _ (forms : ℕ → Form) (next variables : ℕ) (known : ℕ → Bool) (known_below : (x : ℕ) → known x ≡ true → x < next) where
@@ -114,6 +152,7 @@ module _ (forms : ℕ → Form) (next variables : ℕ) (known : ℕ → Bool) (k
     pub supply : g.names.next_variable ≡ variables
     pub forms_below : (x : ℕ) → FormBelow variables (g.names.forms x)
     pub given : AllByRecursion (IsSound g.names) g.given
+    pub once : AreOnce g.given
 
   -- a name on a path is below the next one
   abbrev AllBelow : ℕ → List Pair → Type 0
@@ -135,9 +174,6 @@ module _ (forms : ℕ → Form) (next variables : ℕ) (known : ℕ → Bool) (k
   new_there last (pair ∷ pairs) name apart unknown =
       let p = or_false (nat_eq name pair.other) (is_in name (others pairs)) apart in
       or_made_false (nat_eq pair.other name) (new_scope forms known last pairs name) (turned name pair.other p.0) (new_there last pairs name p.1 unknown)
-    where
-      turned : (x y : ℕ) → nat_eq x y ≡ false → nat_eq y x ≡ false
-      turned x y e = grind (arith, e)
 
   sound_later : (g h : Giving) → IsLater g h → (given : List Given) → AllByRecursion (IsSound g.names) given → AllByRecursion (IsSound h.names) given
   sound_later g h later given all =
@@ -146,6 +182,17 @@ module _ (forms : ℕ → Form) (next variables : ℕ) (known : ℕ → Bool) (k
         below = let a = s.below in let b = later.next in omega (arith, a, b);
         unknown = s.unknown;
       }) all
+
+  -- the next name was not given
+  next_not_taken : (names : Supply) (given : List Given) → AllByRecursion (IsSound names) given → is_taken names.next given ≡ false
+  next_not_taken names [] all = refl
+  next_not_taken names (one ∷ more) all =
+      or_made_false (nat_eq names.next one.name) (is_taken names.next more) (nat_eq-less names.next one.name all.0.below) (next_not_taken names more all.1)
+
+  chosen_not_taken : {given : List Given} {above : List ℕ} {old : ℕ} {form : Form} {names : Supply} {name : ℕ} {names' : Supply} → Chooses given above old form names name names'
+      → AllByRecursion (IsSound names) given → is_taken name given ≡ false
+  chosen_not_taken (its_own taken apart) all = taken
+  chosen_not_taken {given} {above} {old} {form} {names} a_new all = next_not_taken names given all
 
   -- what is found is sound, and does not stand above
   found_sound : {above : List ℕ} {d : Definition} {given : List Given} {found : Option ℕ} (names : Supply) (name : ℕ) → FirstFree above d given found → found ≡ Some name
@@ -165,11 +212,11 @@ module _ (forms : ℕ → Form) (next variables : ℕ) (known : ℕ → Bool) (k
     pub apart : is_in name (others pairs) ≡ false
     pub free : FirstFree (others pairs) d h.given (Some name)
 
-  chosen_sound : {above : List ℕ} {old : ℕ} {form : Form} {names : Supply} {name : ℕ} {names' : Supply} → Chooses above old form names name names'
+  chosen_sound : {given : List Given} {above : List ℕ} {old : ℕ} {form : Form} {names : Supply} {name : ℕ} {names' : Supply} → Chooses given above old form names name names'
       → next ≤ names.next → is_in names.next above ≡ false → names.forms old ≡ form → old < names.next → known old ≡ false
       → (names'.forms name ≡ form) × (name < names'.next) × (known name ≡ false) × (is_in name above ≡ false)
-  chosen_sound (its_own apart) least fresh same lt unknown = (same, lt, unknown, apart)
-  chosen_sound {above} {old} {form} {names} a_new least fresh same lt unknown = (
+  chosen_sound (its_own taken apart) least fresh same lt unknown = (same, lt, unknown, apart)
+  chosen_sound {given} {above} {old} {form} {names} a_new least fresh same lt unknown = (
     ap (λ (b : Bool). if b then form else names.forms names.next) (nat_eq-same names.next),
     omega arith,
     not_known (known names.next) refl,
@@ -180,11 +227,11 @@ module _ (forms : ℕ → Form) (next variables : ℕ) (known : ℕ → Bool) (k
       not_known false e = refl
       not_known true e = absurd (let lt = known_below names.next e in omega (arith, lt, least))
 
-  chosen_forms : {above : List ℕ} {old : ℕ} {form : Form} {names : Supply} {name : ℕ} {names' : Supply} → Chooses above old form names name names'
+  chosen_forms : {given : List Given} {above : List ℕ} {old : ℕ} {form : Form} {names : Supply} {name : ℕ} {names' : Supply} → Chooses given above old form names name names'
       → FormBelow variables form → ((x : ℕ) → FormBelow variables (names.forms x))
       → (names'.next_variable ≡ names.next_variable) × ((x : ℕ) → FormBelow variables (names'.forms x))
-  chosen_forms (its_own apart) below all = (refl, all)
-  chosen_forms {above} {old} {form} {names} a_new below all = (refl, λ x. by (nat_eq names.next x) x)
+  chosen_forms (its_own taken apart) below all = (refl, all)
+  chosen_forms {given} {above} {old} {form} {names} a_new below all = (refl, λ x. by (nat_eq names.next x) x)
     where
       by : (b : Bool) (x : ℕ) → FormBelow variables (if b then form else names.forms x)
       by true x = below
@@ -207,6 +254,7 @@ module _ (forms : ℕ → Form) (next variables : ℕ) (known : ℕ → Bool) (k
           supply = (chosen_forms chosen (subst (FormBelow variables) same (sound.forms_below old)) sound.forms_below).0 ∙ sound.supply;
           forms_below = (chosen_forms chosen (subst (FormBelow variables) same (sound.forms_below old)) sound.forms_below).1;
           given = all_both (IsSound names) g.given (record { definition = d; name = name } ∷ []) (sound_later g h later g.given sound.given) (one, tt);
+          once = once_more g.given d name sound.once (chosen_not_taken chosen sound.given);
         };
         one = one;
         apart = c.3;

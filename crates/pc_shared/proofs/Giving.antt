@@ -7,6 +7,7 @@ use Rattle.pc_window.specs.declared.names.NameTable.{NameTable}
 use Rattle.pc_window.specs.StoredWindow.{supply_in}
 use Rattle.pc_window.proofs.NamesStored.{one_given}
 use Rattle.pc_shared.specs.declared.merging.Definition.{Definition}
+use Rattle.pc_shared.specs.declared.merging.Given.{Given}
 use Rattle.pc_word.specs.Items.{dest_of}
 use Rattle.pc_word.specs.Naming.{map_name, with_dest}
 use Rattle.pc_window.specs.declared.home.Home.{Home}
@@ -23,12 +24,12 @@ pub same_parts : (a b : Definition) → a.tag ≡ b.tag → a.origin ≡ b.origi
 same_parts a b t o i f = λ k. record { tag = t k; origin = o k; item = i k; form = f k }
 
 -- the next name, in a table with its form
-pub new_chosen : (above : List ℕ) (old : ℕ) (form : Form) (table : NameTable) (forms : List Form) (name : ℕ) → name ≡ length table.forms
+pub new_chosen : (given : List Given) (above : List ℕ) (old : ℕ) (form : Form) (table : NameTable) (forms : List Form) (name : ℕ) → name ≡ length table.forms
     → forms ≡ table.forms ++ form ∷ []
-    → Chooses above old form (supply_in table) name (supply_in (record { forms = forms; next_variable = table.next_variable }))
-new_chosen above old form table forms name is more =
-    subst (λ (n : ℕ). Chooses above old form (supply_in table) n (supply_in (record { forms = forms; next_variable = table.next_variable }))) (sym is)
-    (subst (Chooses above old form (supply_in table) (length table.forms))
+    → Chooses given above old form (supply_in table) name (supply_in (record { forms = forms; next_variable = table.next_variable }))
+new_chosen given above old form table forms name is more =
+    subst (λ (n : ℕ). Chooses given above old form (supply_in table) n (supply_in (record { forms = forms; next_variable = table.next_variable }))) (sym is)
+    (subst (Chooses given above old form (supply_in table) (length table.forms))
     (sym (one_given table.forms table.next_variable form) ∙ ap (λ (fs : List Form). supply_in (record { forms = fs; next_variable = table.next_variable })) (sym more))
     a_new)
 

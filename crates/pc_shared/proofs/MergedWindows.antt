@@ -31,12 +31,12 @@ use Rattle.pc_canon.proofs.ParameterLists.{parameters_listed, parameters_used, p
 use Rattle.pc_shared.specs.declared.merging.Definition.{Definition}
 use Rattle.pc_shared.specs.declared.merging.Given.{Given}
 use Rattle.pc_shared.specs.NodeTree.{nodes_in, plain_tree, plain_front}
-use Rattle.pc_shared.specs.Merging.{numbers_below, SameButNames, Defined, OfDefined, EachDefined, NamedAlike, IsMerged, MergedFrom}
+use Rattle.pc_shared.specs.Merging.{numbers_below, SameButNames, Defined, OfDefined, EachDefined, OneName, NamedAlike, IsMerged, MergedFrom}
 use Rattle.pc_shared.specs.models.Merges.{FirstFree, none_given, this_one, a_later, HasMerged}
 use Rattle.pc_shared.proofs.Meaning.{plain_tree_in, plain_front_in}
 use Rattle.pc_shared.proofs.Renamed.{Renamed, trees_alike, fronts_same}
 use Rattle.pc_shared.proofs.RenamedScopes.{becomes_scoped, becomes_below, becomes_first, becomes_independent, as_large, parts_there}
-use Rattle.pc_shared.proofs.GivenNames.{AreSound, HasBecome, becomes, later_same, few_new}
+use Rattle.pc_shared.proofs.GivenNames.{AreSound, HasBecome, becomes, later_same, few_new, one_definition}
 
 -- ---- numbers that correspond to themselves
 
@@ -179,7 +179,7 @@ module _ (w v : StoredWindow) (merged : HasMerged w v) (proper : IsProper (windo
   known_below x k = used_below next tree x names_below k
 
   start_sound : AreSound forms next w.names.next_variable known known_below (record { given = []; names = supply_in w.names })
-  start_sound = record { least = omega arith; kept = λ x lt. refl; supply = refl; forms_below = proper.forms_below.form; given = tt }
+  start_sound = record { least = omega arith; kept = λ x lt. refl; supply = refl; forms_below = proper.forms_below.form; given = tt; once = tt }
 
   begun : HasBecome forms next w.names.next_variable known known_below [] merged.giving (nodes_in w.tree) (nodes_in v.tree)
   begun = becomes forms next w.names.next_variable known known_below merged.merges start_sound tt known (λ x k. k) scoped names_below
@@ -237,7 +237,7 @@ module _ (w v : StoredWindow) (merged : HasMerged w v) (proper : IsProper (windo
   -- ---- one name
 
   abbrev AllAlike : (ℕ → Form) → Tree → Type 0
-  AllAlike f t = EachDefined (λ p. EachDefined (NamedAlike p) f [] t) f [] t
+  AllAlike f t = EachDefined (λ p. EachDefined (OneName p) f [] t) f [] t
 
   abbrev IsFirst : Defined → Type 0
   IsFirst p = FirstFree p.above p.definition merged.giving.given (Some p.name)
@@ -249,10 +249,16 @@ module _ (w v : StoredWindow) (merged : HasMerged w v) (proper : IsProper (windo
   named_alike p q one other e =
       two_first p.name q.name one (subst (λ (d : Definition). FirstFree q.above d merged.giving.given (Some q.name)) (sym e) other) refl refl
 
+  alike_named : (p q : Defined) → IsFirst p → IsFirst q → p.name ≡ q.name → p.definition ≡ q.definition
+  alike_named p q one other e = one_definition p.name begun.sound.once one other refl (ap (λ (n : ℕ). Some n) (sym e))
+
+  one_name : (p q : Defined) → IsFirst p → IsFirst q → OneName p q
+  one_name p q one other = record { alike = alike_named p q one other; named = named_alike p q one other }
+
   all_alike : AllAlike last later
   all_alike =
-      each_imply IsFirst (λ p. EachDefined (NamedAlike p) last [] later) last
-      (λ p one. each_imply IsFirst (NamedAlike p) last (λ q other. named_alike p q one other) [] later each_first) [] later each_first
+      each_imply IsFirst (λ p. EachDefined (OneName p) last [] later) last
+      (λ p one. each_imply IsFirst (OneName p) last (λ q other. one_name p q one other) [] later each_first) [] later each_first
 
   is_merged : IsMerged (window_in v)
   is_merged =

@@ -3,9 +3,9 @@ use Rattle.std.proofs.Common.{◌≡◌, Bool, true, false, List, length, sym, a
 use Rattle.pc_linear.specs.Form.{Form}
 use Rattle.pc_window.specs.declared.tree.WindowTree.{WindowTree}
 use Rattle.pc_window.specs.declared.tree.WindowTree.TheVariants as stored
-use Rattle.pc_window.specs.StoredWindow.{forms_in, InNodes, NodesBehind}
+use Rattle.pc_window.specs.StoredWindow.{forms_in, front_in, InNodes, NodesBehind}
 use Rattle.pc_shared.specs.declared.window.SharedWindow.{SharedWindow}
-use Rattle.pc_shared.specs.NodeTree.{nodes_in, plain_front, AreSingle, AreSingleBehind}
+use Rattle.pc_shared.specs.NodeTree.{NodeTree, nodes_in, plain_front, AreSingle, AreSingleBehind}
 use Rattle.pc_shared.specs.SharedWindows.{shared_tree, IsPlain}
 use Rattle.pc_shared.proofs.Meaning.{plain_front_in}
 
@@ -49,13 +49,17 @@ single_behind (stored.Exit region tag homes) h = tt
 single_behind stored.Stop h = tt
 single_behind (stored.Trap kind line) h = tt
 
+-- a tree with the nodes of a tree in memory has its front
+pub same_front : (nodes : NodeTree) (tree : WindowTree) → nodes ≡ nodes_in tree → plain_front nodes ≡ front_in tree
+same_front nodes tree is = ap plain_front is ∙ plain_front_in tree
+
 -- a tree with the nodes of a shared window, and a copy of its forms, are the plain window
 pub is_plain : (w : SharedWindow) (tree : WindowTree) (forms : List Form) → nodes_in tree ≡ shared_tree w → forms ≡ w.names.forms
     → IsPlain w (record { tree = tree; names = record { forms = forms; next_variable = w.names.next_variable }; limits = w.limits; inside = w.inside })
 is_plain w tree forms is same = record {
   tree = is;
   window = λ i. record {
-    front = (sym (plain_front_in tree) ∙ ap plain_front is) i;
+    front = sym (same_front (shared_tree w) tree (sym is)) i;
     forms = forms_in (same i);
     next = length (same i);
     next_variable = w.names.next_variable;

@@ -59,9 +59,19 @@ EachDefined P forms above (Trap_exit kind line) = Unit {0}
 abbrev pub NamedAlike : Defined → Defined → Type 0
 NamedAlike p q = p.definition ≡ q.definition → (p.name ≡ q.name) ⊎ ((is_in p.name q.above ≡ true) ⊎ (is_in q.name p.above ≡ true))
 
--- as the names are, of no two definitions that are alike could the one have the other's name, where it has not
+-- two definitions that have one name are alike
+abbrev pub AlikeWhereNamed : Defined → Defined → Type 0
+AlikeWhereNamed p q = p.name ≡ q.name → p.definition ≡ q.definition
+
+-- two definitions have one name only where they are alike, and always where they are, unless a third that is alike stands above one
+-- of them, with the name of the other
+pub record OneName (p q : Defined) : Type 0 where
+  pub alike : AlikeWhereNamed p q
+  pub named : NamedAlike p q
+
+-- so it is with each two definitions of a window
 abbrev pub IsMerged : Window → Type 0
-IsMerged w = EachDefined (λ p. EachDefined (NamedAlike p) w.forms [] (whole w.front)) w.forms [] (whole w.front)
+IsMerged w = EachDefined (λ p. EachDefined (OneName p) w.forms [] (whole w.front)) w.forms [] (whole w.front)
 
 -- a window once definitions that are alike have one name: it is equal to the one before but for names, so it has its key, and it is
 -- proper; it is as large, and no more names are new than the one before had items and tests

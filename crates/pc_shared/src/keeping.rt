@@ -2,7 +2,7 @@
 ghost use Rattle.std.specs.Prelude.{◌≡◌, Some, true, IfSome, IfOk};
 ghost use Rattle.pc_arena.specs.Held.{value_at};
 ghost use Rattle.pc_shared.specs.NodeTree.{nodes_in, count_places};
-ghost use Rattle.pc_shared.specs.Unfolding.{Extends, Becomes};
+ghost use Rattle.pc_shared.specs.Unfolding.{Extends, Becomes, Stands, tree_at};
 
 use crate::digest::{homes_digest, node_digest};
 use crate::node::SharedNode;
@@ -15,8 +15,8 @@ use std::alloc::Global;
 
 /// A store to which trees are added.
 #[derive(Drop)]
-pub(crate) struct Keeper {
-    pub(crate) store: Store,
+struct Keeper {
+    store: Store,
     /// Where a node with a digest was put last. It is looked at again, so that nothing rests on it.
     known_nodes: IndexMap<u64, NodeId>,
     /// Where homes with a digest were put last, which are looked at again too.
@@ -78,7 +78,7 @@ fn known_homes(
 
 impl Keeper {
     /// A keeper of an empty store. It takes no memory.
-    pub(crate) fn new(alloc: Global) -> Keeper {
+    fn new(alloc: Global) -> Keeper {
         Keeper {
             store: Store {
                 nodes: Arena::new(alloc),
@@ -90,7 +90,7 @@ impl Keeper {
     }
 
     /// The store.
-    pub(crate) fn into_store(self) -> Store
+    fn into_store(self) -> Store
         ensures { result ≡ self.store }
     {
         self.store
@@ -131,7 +131,7 @@ impl Keeper {
 
     /// Keeps a tree. Nodes that are there already are not kept again.
     #[tactic(auto, using(crate::proofs::Kept::kept))]
-    pub(crate) fn keep(&mut self, alloc: Global, tree: &WindowTree) -> Result<NodeId, OutOfMemory>
+    fn keep(&mut self, alloc: Global, tree: &WindowTree) -> Result<NodeId, OutOfMemory>
         ensures { IfOk result (λ id. Becomes self.old.store self.new.store (count_places (nodes_in tree.now)) id (nodes_in tree.now)) }
     {
         match tree {
@@ -195,4 +195,19 @@ impl Keeper {
             }
         }
     }
+}
+
+/// A store of a tree of so many places alone, and the number that the tree has there.
+pub(crate) fn kept_tree(
+    alloc: Global,
+    tree: &WindowTree,
+    places: u32,
+) -> Result<(Store, NodeId), OutOfMemory>
+    requires { places ≡ count_places (nodes_in tree.now) }
+    ensures stands { IfOk result (λ kept. Stands places kept.0 kept.1) }
+    ensures tree { IfOk result (λ kept. tree_at places kept.0 kept.1 ≡ nodes_in tree.now) }
+{
+    let mut keeper = Keeper::new(alloc);
+    let root = keeper.keep(alloc, tree)?;
+    Ok((keeper.into_store(), root))
 }

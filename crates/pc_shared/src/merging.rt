@@ -5,7 +5,7 @@ ghost use Rattle.pc_window.specs.Steps.{IsProper};
 ghost use Rattle.pc_canon.specs.Pairs.{others};
 ghost use Rattle.pc_shared.specs.NodeTree.{nodes_in};
 ghost use Rattle.pc_shared.specs.models.Renaming.{pairs_in};
-ghost use Rattle.pc_shared.specs.models.Merges.{FirstFree, Chooses, GivesName, Merges, HasMerged, giving_in};
+ghost use Rattle.pc_shared.specs.models.Merges.{FirstFree, Chooses, GivesName, Merges, HasMerged, giving_in, is_taken};
 ghost use Rattle.pc_shared.specs.Merging.{definition_of, MergedFrom};
 ghost use Rattle.pc_window.specs.StoredWindow.{forms_in, supply_in, window_in, InNodes, NodesBehind};
 
@@ -97,17 +97,36 @@ fn first_free(given: &[Given], names: &Renaming, definition: &Definition) -> Opt
     None
 }
 
-/// The old name, or a new one with this form where the old one stands above.
+/// Whether a name was given.
+fn is_taken(given: &[Given], name: u32) -> bool
+    ensures { result ≡ is_taken name given.now }
+{
+    given.iter().any(|one| name == one.name)
+}
+
+/// Whether a name may stay: it was not given, and is in place of none that is defined above.
+fn may_stay(given: &[Given], names: &Renaming, name: u32) -> bool
+    ensures taken { result ≡ true → is_taken name given.now ≡ false }
+    ensures above { result ≡ true → is_in name (others (pairs_in names.now)) ≡ false }
+{
+    if is_taken(given, name) {
+        return false;
+    }
+    !is_given(names, name)
+}
+
+/// The old name, or a new one with this form where the old one was given or stands above.
 #[tactic(auto, using(crate::proofs::Giving::choosing))]
 fn own_or_new(
     table: &mut NameTable,
+    given: &[Given],
     names: &Renaming,
     form: LinForm,
     old: u32,
 ) -> Result<u32, OutOfMemory>
-    ensures { IfOk result (λ name. Chooses (others (pairs_in names.now)) old form (supply_in table.old) name (supply_in table.new)) }
+    ensures { IfOk result (λ name. Chooses given.now (others (pairs_in names.now)) old form (supply_in table.old) name (supply_in table.new)) }
 {
-    if !is_given(names, old) {
+    if may_stay(given, names, old) {
         return Ok(old);
     }
     if table.forms.len() >= MOST_NAMES {
@@ -119,7 +138,7 @@ fn own_or_new(
 }
 
 /// The name in place of an old one, for what is defined so: the first that was given to it and does
-/// not stand above, or else its own, or a new one where its own stands above.
+/// not stand above, or else its own, or a new one where its own was given to another or stands above.
 #[tactic(auto, using(crate::proofs::Giving::giving))]
 fn name_for(
     giver: &mut Giver,
@@ -132,7 +151,7 @@ fn name_for(
     if let Some(name) = first_free(&giver.given, names, &definition) {
         return Ok(name);
     }
-    let name = own_or_new(&mut giver.names, names, definition.form, old)?;
+    let name = own_or_new(&mut giver.names, &giver.given, names, definition.form, old)?;
     giver.given.push(Given { definition, name })?;
     Ok(name)
 }
@@ -214,7 +233,7 @@ fn merge(alloc: Global, window: Window) -> Result<Window, OutOfMemory>
 /// Two are alike where their items are equal but for the names that they write, at the same tag and
 /// origin, and the names have one form. From the first on, in preorder, each gets the first name that
 /// was given to one like it and does not stand above it; where there is none it keeps its own, or has
-/// a new one where that stands above by then. So trees that are equal but for names should become
+/// a new one where that was given to another or stands above by then. So trees that are equal but for names should become
 /// equal, as far as they take no form variable of their own; that they do is tested. All else stays. It takes time quadratic in the
 /// window. `Err` comes for want of memory alone, and where a name would be 2^31; the window is dropped
 /// with it.

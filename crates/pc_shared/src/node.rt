@@ -7,7 +7,7 @@ use pc_word::{Item, Operand, TrapKind};
 
 /// An item, a test or a leaf of a window's tree. What stands below is named by its number, and so are
 /// the homes of a stub.
-#[derive(Clone, Copy, Debug, PartialEq, Eq)]
+#[derive(Clone, Copy, PartialEq, Eq)]
 pub enum SharedNode {
     /// An item, and what stands below it.
     Step {

@@ -48,7 +48,24 @@ pub(crate) fn places_at(store: &Store, id: NodeId, most: u32) -> u32
     }
 }
 
+/// The tree of a number, no deeper than so many nodes, in a box.
+#[cycle(owned)]
+fn boxed_tree(
+    alloc: Global,
+    store: &Store,
+    id: NodeId,
+    most: u32,
+) -> Result<Box<WindowTree>, OutOfMemory>
+    requires { Stands most store.now id }
+    ensures { IfOk result (λ tree. nodes_in tree.value ≡ tree_at most store.now id) }
+{
+    let tree = owned_tree(alloc, store, id, most)?;
+    let boxed = Box::new(alloc, tree)?;
+    Ok(boxed)
+}
+
 /// The tree of a number, no deeper than so many nodes, with nodes of its own.
+#[cycle(owned)]
 #[tactic(auto, using(crate::proofs::Standing::standing))]
 pub(crate) fn owned_tree(
     alloc: Global,
@@ -66,8 +83,7 @@ pub(crate) fn owned_tree(
             item,
             rest,
         } => {
-            let rest = owned_tree(alloc, store, rest, most - 1)?;
-            let rest = Box::new(alloc, rest)?;
+            let rest = boxed_tree(alloc, store, rest, most - 1)?;
             Ok(WindowTree::Step {
                 tag,
                 origin,
@@ -82,10 +98,8 @@ pub(crate) fn owned_tree(
             yes,
             no,
         } => {
-            let yes = owned_tree(alloc, store, yes, most - 1)?;
-            let no = owned_tree(alloc, store, no, most - 1)?;
-            let yes = Box::new(alloc, yes)?;
-            let no = Box::new(alloc, no)?;
+            let yes = boxed_tree(alloc, store, yes, most - 1)?;
+            let no = boxed_tree(alloc, store, no, most - 1)?;
             Ok(WindowTree::Test {
                 tag,
                 origin,
@@ -95,8 +109,7 @@ pub(crate) fn owned_tree(
             })
         }
         SharedNode::Node { below } => {
-            let below = owned_tree(alloc, store, below, most - 1)?;
-            let below = Box::new(alloc, below)?;
+            let below = boxed_tree(alloc, store, below, most - 1)?;
             Ok(WindowTree::Node { below })
         }
         SharedNode::Exit { region, tag, homes } => {

@@ -4,7 +4,7 @@ ghost use Rattle.pc_shared.specs.NodeTree.{count_places};
 ghost use Rattle.pc_shared.specs.Unfolding.{tree_at, Stands};
 ghost use Rattle.pc_shared.specs.StandsOnce.{stands_once};
 
-use crate::keeping::Keeper;
+use crate::keeping::kept_tree;
 use crate::merging::merged;
 use crate::node::SharedNode;
 use crate::owning::own_link;
@@ -47,21 +47,18 @@ impl SharedWindow {
 
     /// The window, with equal nodes kept once. `Err` comes for want of memory alone, for which also
     /// 2^31 places count, and the window is dropped with it.
-    #[tactic(auto, using(crate::proofs::Meaning::meaning))]
     pub fn of_window(alloc: Global, window: Window) -> Result<SharedWindow, OutOfMemory>
         ensures tree { IfOk result (λ shared. shared_tree shared ≡ nodes_in window.tree) }
         ensures window { IfOk result (λ shared. shared_window shared ≡ window_in window) }
     {
+        let depth = count_few(&window.tree)?;
+        let (store, root) = kept_tree(alloc, &window.tree, depth)?;
         let Window {
-            tree,
+            tree: _,
             names,
             limits,
             inside,
         } = window;
-        let depth = count_few(&tree)?;
-        let mut keeper = Keeper::new(alloc);
-        let root = keeper.keep(alloc, &tree)?;
-        let store = keeper.into_store();
         Ok(SharedWindow {
             store,
             root,

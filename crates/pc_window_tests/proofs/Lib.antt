@@ -4,4 +4,3 @@ pub mod SumWindows
 pub mod LoopingKept
 pub mod EchoingKept
 pub mod ExchangingKept
-pub mod SharedSteps

@@ -3,4 +3,3 @@ pub mod TwoVariables
 pub mod Looping
 pub mod Echoing
 pub mod Exchanging
-pub mod Twins

@@ -1,5 +1,5 @@
-//! Tests of windows: of forms, of opening, rebasing, unwinding and cutting, of keys, of the search for the
-//! automaton of a region, and of windows whose equal parts are kept once.
+//! Tests of windows: of forms, of opening, rebasing, unwinding and cutting, of keys, and of the search for
+//! the automaton of a region.
 #![tactic(auto)]
 
 #[cfg(test)]
@@ -16,10 +16,6 @@ mod pattern;
 mod rebase;
 #[cfg(test)]
 mod renumber;
-#[cfg(test)]
-mod shared;
-#[cfg(test)]
-mod sharing;
 #[cfg(test)]
 mod tables;
 #[cfg(test)]

@@ -74,7 +74,7 @@ fn after(alloc: Global) -> Result<RegionTree, AllocError>
 
 /// The three regions as a table.
 #[tactic(auto, using(crate::proofs::LoopingKept::looping))]
-pub(crate) fn looping(alloc: Global) -> Result<RegionTable, AllocError>
+fn looping(alloc: Global) -> Result<RegionTable, AllocError>
     ensures { IfOk result (λ table. table_of table ≡ looping_table) }
 {
     let mut live = VarList::new(alloc);

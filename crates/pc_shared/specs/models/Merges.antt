@@ -1,5 +1,6 @@
 -- How definitions that are alike get one name, one after the other.
-use Rattle.std.specs.Prelude.{◌≡◌, ℕ, true, false, List, [], ◌∷◌, ◌++◌, Option, Some, None}
+use Rattle.std.specs.Prelude.{◌≡◌, ℕ, Bool, true, false, nat_eq, List, [], ◌∷◌, ◌++◌, Option, Some, None}
+use Rattle.std.specs.List.{list_any}
 use Rattle.pc_word.specs.declared.item.Item.{Item}
 use Rattle.pc_word.specs.declared.item.Operand.{Operand}
 use Rattle.pc_word.specs.declared.item.TrapKind.{TrapKind}
@@ -41,16 +42,20 @@ giving_in giver = record { given = giver.given.items; names = supply_in giver.na
 abbrev pub one_more : List Given → Definition → ℕ → List Given
 one_more given definition name = given ++ record { definition = definition; name = name } ∷ []
 
--- a name for an old one with this form, where these stand above: itself, or a new one
-pub data Chooses (above : List ℕ) (old : ℕ) (form : Form) (names : Supply) : ℕ → Supply → Type 0 where
-  its_own : is_in old above ≡ false → Chooses above old form names old names
-  a_new : Chooses above old form names names.next (with_name names (Some form))
+-- whether a name was given
+abbrev pub is_taken : ℕ → List Given → Bool
+is_taken x given = list_any (λ one. nat_eq x one.name) given
+
+-- a name for an old one with this form, where these were given and these stand above: itself, or a new one
+pub data Chooses (given : List Given) (above : List ℕ) (old : ℕ) (form : Form) (names : Supply) : ℕ → Supply → Type 0 where
+  its_own : is_taken old given ≡ false → is_in old above ≡ false → Chooses given above old form names old names
+  a_new : Chooses given above old form names names.next (with_name names (Some form))
 
 -- below these pairs of names, a name is given in place of an old one: the first that may be, or one that is chosen
 pub data GivesName (pairs : List Pair) (old : ℕ) (definition : Definition) (g : Giving) : ℕ → Giving → Type 0 where
   given_before : {name : ℕ} → FirstFree (others pairs) definition g.given (Some name) → GivesName pairs old definition g name g
   given_now : {name : ℕ} {names : Supply} → FirstFree (others pairs) definition g.given None
-      → Chooses (others pairs) old definition.form g.names name names
+      → Chooses g.given (others pairs) old definition.form g.names name names
       → GivesName pairs old definition g name (record { given = one_more g.given definition name; names = names })
 
 -- ---- trees

@@ -1,20 +1,15 @@
-//! Windows of sources, plain and shared: what is kept once, and one key after each step.
+//! What is kept once of the window of a loop.
 ghost use Rattle.std.specs.Prelude.{◌<◌, length, IfSome};
 ghost use Rattle.pc_shared.specs.SharedWindows.{IsNode};
 
-use crate::tables::LIMITS;
+use crate::bounds::size as size_of;
+use crate::copying::copied;
+use crate::following::unwound;
+use crate::programs::{narrow, regions_of};
 use pc_arena::NodeId;
-use pc_check::check;
-use pc_lexer::tokens;
-use pc_live::live;
-use pc_lower::lower;
-use pc_parser::parse;
-use pc_regions::regions;
 use pc_shared::{SharedWindow, merged};
 use pc_table::RegionTable;
-use pc_unwind::unwind;
 use pc_window::{Window, WindowError};
-use pc_word::{MOST_SOURCE, MOST_TOKENS};
 use std::alloc::Global;
 use std::test::Fail;
 
@@ -32,9 +27,9 @@ const PAST_NO: [bool; 15] = [
 ];
 
 /// What is counted of the loop's window: places, nodes that are kept where names are not merged, where
-/// they are, and once a leaf has a node of its own below it; whether both sides lead to that leaf; and
-/// nodes that are kept after one step more, which merges names again.
-#[derive(Clone, Copy, Debug, PartialEq, Eq)]
+/// they are, and once a leaf has a node of its own below it; whether both sides lead to that leaf; nodes that are
+/// kept after one step more, which merges names again; and whether that window has the size of the plain one.
+#[derive(Clone, Copy, PartialEq, Eq)]
 struct Kept {
     places: u32,
     unmerged: usize,
@@ -42,23 +37,7 @@ struct Kept {
     owned: usize,
     meets: bool,
     again: usize,
-}
-
-/// The regions of a source.
-fn regions_of(alloc: Global, text: &[u8]) -> Result<RegionTable, Fail> {
-    if text.len() > MOST_SOURCE {
-        Err(WindowError::Memory)?;
-    }
-    let tokens = tokens(alloc, text)?;
-    if tokens.len() > MOST_TOKENS {
-        Err(WindowError::Memory)?;
-    }
-    let program = parse(alloc, &tokens)?;
-    let checked = check(alloc, &program)?;
-    let flow = lower(alloc, &checked)?;
-    let liveness = live(alloc, &flow)?;
-    let table = regions(alloc, &flow, &liveness)?;
-    Ok(table)
+    sized: bool,
 }
 
 /// The first region that heads a loop.
@@ -99,27 +78,25 @@ fn own_below(shared: &mut SharedWindow) -> Result<bool, WindowError> {
     Ok(true)
 }
 
-/// A region's window, opened and unwound with window 2.
-fn unwound(alloc: Global, table: &RegionTable, region: u32) -> Result<Window, WindowError>
-    requires { region < length table.now.regions }
-{
-    let window = Window::of_region(alloc, table, region, LIMITS)?;
-    unwind(alloc, window, table, 2)
-}
-
 /// A shared window after a step that merges names again.
 fn merged_again(alloc: Global, shared: &SharedWindow) -> Result<SharedWindow, WindowError> {
     let answer = shared.step(alloc, |window| merged(alloc, window))?;
     answer
 }
 
+/// Whether the plain window has so many items and tests.
+fn has_size(alloc: Global, shared: SharedWindow, size: u32) -> Result<bool, WindowError> {
+    let window = shared.into_window(alloc)?;
+    Ok(size_of(&window.tree) == Some(size))
+}
+
 /// What is counted of such a window.
 fn kept_of(alloc: Global, table: &RegionTable, region: u32) -> Result<Kept, WindowError>
     requires { region < length table.now.regions }
 {
-    let window = unwound(alloc, table, region)?;
-    let plain = SharedWindow::of_window(alloc, window)?;
-    let window = unwound(alloc, table, region)?;
+    let window = unwound(alloc, table, region, narrow(), 2)?;
+    let same = copied(alloc, &window)?;
+    let plain = SharedWindow::of_window(alloc, same)?;
     let window = merged(alloc, window)?;
     let mut shared = SharedWindow::of_window(alloc, window)?;
     let kept = shared.kept();
@@ -132,6 +109,7 @@ fn kept_of(alloc: Global, table: &RegionTable, region: u32) -> Result<Kept, Wind
         owned: shared.kept(),
         meets,
         again: again.kept(),
+        sized: has_size(alloc, shared, again.size())?,
     })
 }
 
@@ -157,7 +135,8 @@ fn sides_that_meet_are_kept_once(rt: HostRuntime) -> Result<(), Fail> {
             merged: 37,
             owned: 38,
             meets: true,
-            again: 37
+            again: 37,
+            sized: true,
         })
     );
     Ok(())
