@@ -209,6 +209,26 @@ module _ (window : StoredWindow) (place : ℕ) (it : Candidate) where
 
 pub ruleset ready = (unknown_here, full_here, ready_here)
 
+-- known by what stands above, and known before the window
+module _ (window : StoredWindow) (place : ℕ) (it : Candidate) (found : node_in (Some it) ≡ slice_get (nodes_of (tree_in window.tree)) place)
+    (scoped : Scoped (uses (whole (front_in window.tree))) (whole (front_in window.tree))) where
+  scoped_tree : Scoped (uses (whole (front_in window.tree))) (tree_in window.tree)
+  scoped_tree = subst (Scoped (uses (whole (front_in window.tree)))) (whole_in window.tree) scoped
+
+  pub ready_known : (b : Bool) → (b ≡ true) ↔ IsReadyHere (unwritten_above (tree_in window.tree) place) (window_in window) place it.item (node_of it).operands
+      → (b ≡ true) ↔ IsReadyHere (uses (whole (front_in window.tree))) (window_in window) place it.item (node_of it).operands
+  ready_known b iff =
+      let known = uses (whole (front_in window.tree)) in
+      let os = (node_of it).operands in
+      let k = known_there (tree_in window.tree) known place (node_of it) scoped_tree (sym found) in
+      same_fact b (IsReadyHere (unwritten_above (tree_in window.tree) place) (window_in window) place it.item os) (IsReadyHere known (window_in window) place it.item os)
+      (λ h. record { reads = known_before (tree_in window.tree) known place os k os k.reads h.reads; room = h.room; way = h.way })
+      (λ h. record {
+        reads = all_imply (IsKnown known) (IsKnown (unwritten_above (tree_in window.tree) place)) os (known_unwritten (tree_in window.tree) known place os k) h.reads;
+        room = h.room;
+        way = h.way;
+      }) iff
+
 -- ---- one place more
 
 module _ (window : StoredWindow) (place : ℕ) (first : Option ReadyNode) (before : BestBefore (uses (whole (front_in window.tree))) (window_in window) place first) where
@@ -222,34 +242,16 @@ module _ (window : StoredWindow) (place : ℕ) (first : Option ReadyNode) (befor
 
   module _ (it : Candidate) (found : node_in (Some it) ≡ slice_get (nodes_of (tree_in window.tree)) place)
       (scoped : Scoped (uses (whole (front_in window.tree))) (whole (front_in window.tree))) where
-    scoped_tree : Scoped (uses (whole (front_in window.tree))) (tree_in window.tree)
-    scoped_tree = subst (Scoped (uses (whole (front_in window.tree)))) (whole_in window.tree) scoped
-
-    -- known by what stands above, and known before the window
-    ready_known : (b : Bool) → (b ≡ true) ↔ IsReadyHere (unwritten_above (tree_in window.tree) place) (window_in window) place it.item (node_of it).operands
-        → (b ≡ true) ↔ IsReadyHere (uses (whole (front_in window.tree))) (window_in window) place it.item (node_of it).operands
-    ready_known b iff =
-        let known = uses (whole (front_in window.tree)) in
-        let os = (node_of it).operands in
-        let k = known_there (tree_in window.tree) known place (node_of it) scoped_tree (sym found) in
-        same_fact b (IsReadyHere (unwritten_above (tree_in window.tree) place) (window_in window) place it.item os) (IsReadyHere known (window_in window) place it.item os)
-        (λ h. record { reads = known_before (tree_in window.tree) known place os k os k.reads h.reads; room = h.room; way = h.way })
-        (λ h. record {
-          reads = all_imply (IsKnown known) (IsKnown (unwritten_above (tree_in window.tree) place)) os (known_unwritten (tree_in window.tree) known place os k) h.reads;
-          room = h.room;
-          way = h.way;
-        }) iff
-
     pub later_here : comes_before it.tag it.origin first ≡ false → BestBefore (uses (whole (front_in window.tree))) (window_in window) (place + 1) first
     later_here e = look_behind (uses (whole (front_in window.tree))) window place (place + 1) (node_of it) (sym found) refl first before e
 
     pub waiting_here : (b : Bool) → (b ≡ true) ↔ IsReadyHere (unwritten_above (tree_in window.tree) place) (window_in window) place it.item (node_of it).operands
         → b ≡ false → BestBefore (uses (whole (front_in window.tree))) (window_in window) (place + 1) first
-    waiting_here b iff e = look_unready (uses (whole (front_in window.tree))) window place (place + 1) (node_of it) (sym found) refl first before b (ready_known b iff) e
+    waiting_here b iff e = look_unready (uses (whole (front_in window.tree))) window place (place + 1) (node_of it) (sym found) refl first before b (ready_known window place it found scoped b iff) e
 
     pub found_here : (b : Bool) → comes_before it.tag it.origin first ≡ true
         → (b ≡ true) ↔ IsReadyHere (unwritten_above (tree_in window.tree) place) (window_in window) place it.item (node_of it).operands → b ≡ true
         → BestBefore (uses (whole (front_in window.tree))) (window_in window) (place + 1) (Some (record { tag = it.tag; origin = it.origin; place = place; item = it.item }))
-    found_here b e iff f = look_found (uses (whole (front_in window.tree))) window place (place + 1) (node_of it) (sym found) refl first before b e (ready_known b iff) f
+    found_here b e iff f = look_found (uses (whole (front_in window.tree))) window place (place + 1) (node_of it) (sym found) refl first before b e (ready_known window place it found scoped b iff) f
 
 pub ruleset looking = (none_here, later_here, waiting_here, found_here)

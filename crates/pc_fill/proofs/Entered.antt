@@ -14,6 +14,7 @@ use Rattle.pc_window.specs.Jump.{Rises, Root, Past_item, Past_yes, Past_no, Divi
 use Rattle.pc_window.specs.Filled.{risen_place, divided_place, priority_of, IsNext}
 use Rattle.pc_window.proofs.Readiness.{Alike, clear_alike}
 use Rattle.pc_fill.specs.declared.landing.Coming.{Coming}
+use Rattle.pc_fill.specs.Bringing.{IsTwin}
 use Rattle.pc_fill.specs.models.Places.{nodes_of, MayPass, MayCross, MayRise}
 use Rattle.pc_fill.specs.models.Taking.{taken_out, divided_on, divided_yes, divided_no}
 use Rattle.pc_fill.specs.models.Landing.{both_unfinished, joins, above_test, place_or_root, landed, crossed, crosses, came, new_name}
@@ -127,11 +128,6 @@ divided_as tag origin on from p q (Past t o y rest p' q' divides) =
     }
 
 -- ---- what comes into the front
-
--- a place of a twin, where there is one
-abbrev pub IsTwin : Option ℕ → ℕ → ℕ → Type 0
-IsTwin None side place = side ≡ 1
-IsTwin (Some k) side place = (side ≡ 0) × (place ≡ k)
 
 pub record EnteredAs (next : ℕ) (twin : Option ℕ) (new : Option ℕ) (comes : Option Item) (from to : Front) (tag origin place : ℕ) : Type 0 where
   pub what : Option Item

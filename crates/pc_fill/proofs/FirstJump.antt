@@ -17,7 +17,7 @@ use Rattle.pc_window.specs.Filled.{risen_place, priority_of, deeper, TwinsAlike,
 use Rattle.pc_window.specs.Ready.{CanRise, Stands_here, Stands_below, Stands_on_yes, Stands_on_no, MayStandBehind, IsReadyAt, Item_ready, Test_ready, Ready_below, Ready_on_yes, Ready_on_no}
 use Rattle.pc_window.proofs.Readiness.{Alike, alike, dest_named, clear_alike, Risen, not_written_named, follows_alike, reads_alike, gives_next}
 use Rattle.pc_fill.specs.models.Places.{Node, nodes_of}
-use Rattle.pc_fill.specs.models.Landing.{both_unfinished, TwinHere, TwinIn}
+use Rattle.pc_fill.specs.models.Landing.{both_unfinished, TwinHere, TwinIn, TwinFor}
 use Rattle.pc_fill.proofs.Sides.{to_below, from_below, to_no, from_no, side_first, first_only, side_second, second_only}
 use Rattle.pc_fill.proofs.Nodes.{node_on_yes, node_on_no, node_within, stands_free, StandsFree, comes_up}
 use Rattle.pc_fill.proofs.Entered.{rises_at, rises_free, risen_within, renamed_again, twin_above}
@@ -56,11 +56,6 @@ rise_renamed forms m x tag origin place c from (Stands_on_no t o on n d p q is c
     }
 
 -- ---- what has come with a twin had one
-
--- an item stood there, and had a twin there
-abbrev pub TwinFor : (ℕ → Form) → (next tag origin : ℕ) → Option Item → Front → ℕ → ℕ → Type 0
-TwinFor forms next tag origin (Some item) from place k = TwinIn forms next tag origin item from place k
-TwinFor forms next tag origin None from place k = ⊥
 
 pub record HadTwin (forms : ℕ → Form) (next tag origin place k : ℕ) (from : Front) : Type 0 where
   pub item : Item

@@ -15,9 +15,14 @@ pub mod Entered
 pub mod AtPlaces
 pub mod Along
 pub mod Twins
+pub mod TwinPlaces
+pub mod WayTo
 pub mod FirstJump
+pub mod Found
 pub mod Coming
 pub mod Named
+pub mod Alone
+pub mod Brought
 pub mod StaysNew
 pub mod Jumps
 pub mod Opened

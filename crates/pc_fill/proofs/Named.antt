@@ -1,6 +1,6 @@
 -- What comes, with its name, and the window that it comes to.
-use Rattle.std.proofs.Common.{◌≡◌, ℕ, Bool, true, false, List, Option, Some, None, length, refl, sym, ◌∙◌, ap, subst}
-use Rattle.std.specs.Prelude.{◌||◌, is_some}
+use Rattle.std.proofs.Common.{◌≡◌, ℕ, Bool, true, false, List, Option, Some, None, Result, Ok, Err, length, refl, sym, ◌∙◌, ap, subst}
+use Rattle.std.specs.Prelude.{◌||◌, is_some, IfOk}
 use Rattle.pc_word.specs.declared.item.Item.{Item}
 use Rattle.pc_word.specs.declared.item.Item.TheVariants.{Bin, Copy, Load, Store, Print, Read, More}
 use Rattle.pc_word.specs.Items.{dest_of}
@@ -14,7 +14,7 @@ use Rattle.pc_window.specs.Jump.{combined}
 use Rattle.pc_window.specs.Filled.{given_supply}
 use Rattle.pc_window.specs.StoredWindow.{front_in, forms_in, supply_in, window_in}
 use Rattle.pc_fill.specs.declared.walk.Found.{Found}
-use Rattle.pc_fill.specs.models.Landing.{landed, came, new_name, FirstTwinOf, renames, coming_of, supply_after, HasCome}
+use Rattle.pc_fill.specs.models.Landing.{landed, came, new_name, FirstTwinOf, renames, coming_of, supply_after, landed_window, HasCome}
 use Rattle.pc_fill.specs.models.Way.{Reaches, crosses_along, landed_along}
 use Rattle.pc_fill.specs.models.Walk.{found_at}
 use Rattle.pc_fill.proofs.Along.{crosses_reached, landed_reached}
@@ -96,15 +96,14 @@ module _ (forms : ℕ → Form) (n tag origin : ℕ) (what : Option Item) (front
 
 -- ---- the window
 
-pub has_come : (w : StoredWindow) (it : Found) (way : List Bool) (twin : Option ℕ) (renamed : Bool) (item : Option Item) (tree : WindowTree) (names : NameTable)
-    → ((place : ℕ) → Reaches (front_in w.tree) way it.depth place → FirstTwinOf (forms_in w.names.forms) (length w.names.forms) it.tag it.origin it.item (front_in w.tree) place twin)
+pub comes_landed : (w : StoredWindow) (it : Found) (way : List Bool) (twin : Option ℕ) (renamed : Bool) (item : Option Item) (tree : WindowTree) (names : NameTable)
     → renamed ≡ (is_some twin || crosses_along (front_in w.tree) way)
     → item ≡ came (length w.names.forms) renamed it.item
     → supply_in names ≡ given_supply (supply_in w.names) (new_name (length w.names.forms) renamed it.item) (came (length w.names.forms) renamed it.item)
     → front_in tree ≡ landed_along (record { tag = it.tag; origin = it.origin; item = item; twin = twin }) (front_in w.tree) way it.depth
     → (place : ℕ) → Reaches (front_in w.tree) way it.depth place
-    → HasCome (window_in w) (found_at it place) (window_in (record { tree = tree; names = names; limits = w.limits; inside = w.inside }))
-has_come w it way twin renamed item tree names first is comes given lands place r =
+    → window_in (record { tree = tree; names = names; limits = w.limits; inside = w.inside }) ≡ landed_window (window_in w) (found_at it place) twin
+comes_landed w it way twin renamed item tree names is comes given lands place r =
     let n = length w.names.forms in
     let same : renamed ≡ renames (window_in w) (found_at it place) twin =
     is ∙ ap (λ (b : Bool). is_some twin || b) (crosses_reached (front_in w.tree) way it.depth place r) in
@@ -114,18 +113,22 @@ has_come w it way twin renamed item tree names first is comes given lands place 
     ∙ ap (λ (o : Option Item). landed (record { tag = it.tag; origin = it.origin; item = o; twin = twin }) (front_in w.tree) place) item_is in
     let names_is : supply_in names ≡ supply_after (window_in w) (found_at it place) twin =
     given ∙ ap (λ (b : Bool). given_supply (supply_in w.names) (new_name n b it.item) (came n b it.item)) same in
-    record {
-      twin = twin;
-      first = first place r;
-      is = λ i. record {
-        front = front_is i;
-        forms = (names_is i).forms;
-        next = (names_is i).next;
-        next_variable = (names_is i).next_variable;
-        limits = w.limits;
-        inside = w.inside;
-      };
+    λ i. record {
+      front = front_is i;
+      forms = (names_is i).forms;
+      next = (names_is i).next;
+      next_variable = (names_is i).next_variable;
+      limits = w.limits;
+      inside = w.inside;
     }
+
+-- what comes with its first twin
+pub comes_first : {E : Type 0} (w : StoredWindow) (it : Found) (way : List Bool) (twin : Option ℕ) (r : Result StoredWindow E)
+    → ((place : ℕ) → Reaches (front_in w.tree) way it.depth place → FirstTwinOf (forms_in w.names.forms) (length w.names.forms) it.tag it.origin it.item (front_in w.tree) place twin)
+    → ((place : ℕ) → Reaches (front_in w.tree) way it.depth place → IfOk r (λ later. window_in later ≡ landed_window (window_in w) (found_at it place) twin))
+    → (place : ℕ) → Reaches (front_in w.tree) way it.depth place → IfOk r (λ later. HasCome (window_in w) (found_at it place) (window_in later))
+comes_first w it way twin (Ok later) first come place r = record { twin = twin; first = first place r; is = come place r }
+comes_first w it way twin (Err e) first come place r = tt
 
 pub ruleset naming = (kept_item, kept_names, plain_names, named_item, named_names)
 
@@ -133,4 +136,6 @@ pub ruleset coming = (test_names)
 
 pub ruleset twinned = (item_twin, test_twin)
 
-pub ruleset jumping = (has_come, come_in_order)
+pub ruleset jumping = (comes_landed, come_in_order)
+
+pub ruleset first = (comes_first)

@@ -49,7 +49,7 @@ module _ (known : ℕ → Bool) (w : Window) (place : ℕ) (node : Node) (at : s
       let here : IsReadyHere known w place r.what k.operands = record { reads = k.reads; room = r.room; way = subst (MayComeFrom w.forms r.what w.front) e k.way } in
       (ap (λ (n : Node). n.tag) same, ap (λ (n : Node). n.origin) same, subst (λ (n : Node). IsReadyHere known w place n.what n.operands) same here)
 
-  here_stands : IsReadyHere known w place node.what node.operands → StandsReady known w (record { tag = node.tag; origin = node.origin; place = place; item = node.what })
+  pub here_stands : IsReadyHere known w place node.what node.operands → StandsReady known w (record { tag = node.tag; origin = node.origin; place = place; item = node.what })
   here_stands h = record { ready = free_ready known w.forms w.front place node at h.reads h.way; room = h.room }
 
   -- where it is not ready, the first stays the first

@@ -1,4 +1,5 @@
 pub mod models
 pub mod FirstReady
 pub mod Fillable
+pub mod Bringing
 pub mod Laws

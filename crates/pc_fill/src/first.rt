@@ -81,7 +81,7 @@ impl Candidate {
 
 /// The item or test at a preorder place of a tree.
 #[tactic(auto, using(crate::proofs::AtPlaces::standing))]
-fn node_at(tree: &WindowTree, place: u32) -> Option<Candidate>
+pub(crate) fn node_at(tree: &WindowTree, place: u32) -> Option<Candidate>
     ensures { node_in result ≡ slice_get (nodes_of (tree_in tree.now)) place }
 {
     match tree {
@@ -121,7 +121,7 @@ fn node_at(tree: &WindowTree, place: u32) -> Option<Candidate>
 
 /// Whether what stands at a place is ready and has room beside these counts of the front.
 #[tactic(auto, using(crate::proofs::AtPlaces::ready))]
-fn is_ready(window: &Window, counts: Counts, place: u32, it: Candidate) -> bool
+pub(crate) fn is_ready(window: &Window, counts: Counts, place: u32, it: Candidate) -> bool
     requires counts { AreCounts counts (front_in window.now.tree) }
     requires small { tree_size (tree_in window.now.tree) < 2 ^ 31 }
     ensures { (result ≡ true) ↔ IsReadyHere (unwritten_above (tree_in window.now.tree) place) (window_in window.now) place it.item (operand_list it.operands) }

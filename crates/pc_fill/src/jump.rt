@@ -3,7 +3,7 @@ ghost use Rattle.std.specs.Prelude.{◌≡◌, ◌<◌, ◌≤◌, ◌+◌, ◌^
 ghost use Rattle.pc_window.specs.Tree.{tree_size};
 ghost use Rattle.pc_window.specs.Filled.{given_supply};
 ghost use Rattle.pc_window.specs.StoredWindow.{tree_in, front_in, forms_in, supply_in, window_in, NodesBehind};
-ghost use Rattle.pc_fill.specs.models.Landing.{came, new_name, FirstTwinOf, HasCome};
+ghost use Rattle.pc_fill.specs.models.Landing.{came, new_name, FirstTwinOf, landed_window, HasCome};
 ghost use Rattle.pc_fill.specs.models.Way.{Reaches, some_sides, crosses_along};
 ghost use Rattle.pc_fill.specs.models.Walk.{found_at};
 ghost use Rattle.pc_fill.specs.models.TagOrder.{TagsInOrderBehind};
@@ -126,25 +126,25 @@ fn renames(window: &Window, way: &[bool], twin: Option<u32>) -> bool
     }
 }
 
-/// What is first of all that is ready, where a way leads, comes into the front.
+/// What is ready where a way leads comes into the front, alone or with this twin.
 #[tactic(auto, using(crate::proofs::Named::jumping))]
-pub(crate) fn jump(
+pub(crate) fn come(
     alloc: Global,
     window: Window,
     found: Found,
     way: &[bool],
+    twin: Option<u32>,
 ) -> Result<Window, AllocError>
-    requires small { tree_size (tree_in window.tree) < 2 ^ 31 }
     requires nodes { NodesBehind window.tree }
     requires names { length window.names.forms < 2 ^ 31 }
     requires variables { window.names.next_variable < 2 ^ 31 }
-    ensures come { (place : ℕ) → Reaches (front_in window.tree) way.now found.depth place → IfOk result (λ later. HasCome (window_in window) (found_at found place) (window_in later)) }
+    ensures come { (place : ℕ) → Reaches (front_in window.tree) way.now found.depth place
+        → IfOk result (λ later. window_in later ≡ landed_window (window_in window) (found_at found place) twin) }
     ensures nodes { IfOk result (λ later. NodesBehind later.tree) }
     ensures in_order { TagsInOrderBehind (front_in window.tree) → IfOk result (λ later. TagsInOrderBehind (front_in later.tree)) }
     ensures count { IfOk result (λ later. length later.names.forms ≤ length window.names.forms + 1) }
     ensures variables { IfOk result (λ later. later.names.next_variable ≤ window.names.next_variable + 1) }
 {
-    let twin = first_twin(&window, found, way);
     let renames = renames(&window, way, twin);
     let Window {
         tree,
@@ -168,4 +168,26 @@ pub(crate) fn jump(
         limits,
         inside,
     })
+}
+
+/// What is first of all that is ready, where a way leads, comes into the front.
+#[tactic(auto, using(crate::proofs::Named::first))]
+pub(crate) fn jump(
+    alloc: Global,
+    window: Window,
+    found: Found,
+    way: &[bool],
+) -> Result<Window, AllocError>
+    requires small { tree_size (tree_in window.tree) < 2 ^ 31 }
+    requires nodes { NodesBehind window.tree }
+    requires names { length window.names.forms < 2 ^ 31 }
+    requires variables { window.names.next_variable < 2 ^ 31 }
+    ensures come { (place : ℕ) → Reaches (front_in window.tree) way.now found.depth place → IfOk result (λ later. HasCome (window_in window) (found_at found place) (window_in later)) }
+    ensures nodes { IfOk result (λ later. NodesBehind later.tree) }
+    ensures in_order { TagsInOrderBehind (front_in window.tree) → IfOk result (λ later. TagsInOrderBehind (front_in later.tree)) }
+    ensures count { IfOk result (λ later. length later.names.forms ≤ length window.names.forms + 1) }
+    ensures variables { IfOk result (λ later. later.names.next_variable ≤ window.names.next_variable + 1) }
+{
+    let twin = first_twin(&window, found, way);
+    come(alloc, window, found, way, twin)
 }

@@ -1,6 +1,7 @@
 //! Filling: what stands behind a window's front and is ready comes into it, as long as there is room.
 #![tactic(auto)]
 
+mod bringing;
 mod filling;
 mod first;
 mod jump;
@@ -15,6 +16,8 @@ mod taking;
 mod twin;
 mod walk;
 
+pub use bringing::bring;
 pub use filling::fill;
 pub use first::{ReadyNode, first_ready};
 pub use laws::law_of_opened_windows;
+pub use readiness::size_up_to;

@@ -9,7 +9,7 @@ use pc_window::{NameTable, WindowTree};
 use pc_word::Item;
 
 /// The number of items and tests of a tree, counted no further than this many.
-pub(crate) fn size_up_to(tree: &WindowTree, most: u32) -> u32
+pub fn size_up_to(tree: &WindowTree, most: u32) -> u32
     ensures most { result ≤ most }
     ensures within { result ≤ tree_size (tree_in tree.now) }
     ensures exact { result < most → result ≡ tree_size (tree_in tree.now) }

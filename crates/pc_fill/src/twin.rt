@@ -5,10 +5,11 @@ ghost use Rattle.pc_window.specs.StoredWindow.{tree_in, front_in, forms_in};
 ghost use Rattle.pc_fill.specs.models.Places.{MayRise};
 ghost use Rattle.pc_fill.specs.models.Search.{StandsAt};
 ghost use Rattle.pc_fill.specs.models.Way.{Reaches};
-ghost use Rattle.pc_fill.specs.models.Landing.{TwinsAt, FirstFrom, FirstIn};
+ghost use Rattle.pc_fill.specs.models.Landing.{TwinsAt, TwinHere, TwinIn, FirstFrom, FirstIn};
 
+use crate::first::node_at;
 use crate::landing::both_unfinished;
-use crate::readiness::may_rise;
+use crate::readiness::{may_rise, size_up_to};
 use pc_window::{NameTable, WindowTree};
 use pc_word::Item;
 
@@ -119,5 +120,62 @@ pub(crate) fn twin_of(
         WindowTree::Exit { .. } => None,
         WindowTree::Stop => None,
         WindowTree::Trap { .. } => None,
+    }
+}
+
+/// Whether a twin stands at a place of a tree.
+#[tactic(auto, using(crate::proofs::TwinPlaces::standing))]
+fn is_twin_here(names: &NameTable, seeker: Seeker, all: &WindowTree, place: u32) -> bool
+    requires small { tree_size (tree_in all.now) < 2 ^ 31 }
+    requires names { length names.now.forms < 2 ^ 31 }
+    ensures { (result ≡ true) ↔ TwinHere (forms_in names.now.forms) (length names.now.forms) seeker.tag seeker.origin seeker.item (tree_in all.now) place }
+{
+    let Some(it) = node_at(all, place) else {
+        return false;
+    };
+    let Some(other) = it.item else {
+        return false;
+    };
+    is_twin(names, seeker, all, it.tag, it.origin, other, place)
+}
+
+/// Whether an item at a place behind a front has its twin at a place of the no side of the front's
+/// test right behind which it stands on the yes side.
+#[tactic(auto, using(crate::proofs::TwinPlaces::finding))]
+pub(crate) fn has_twin_at(
+    tree: &WindowTree,
+    names: &NameTable,
+    seeker: Seeker,
+    place: u32,
+    twin: u32,
+) -> bool
+    requires small { tree_size (tree_in tree.now) < 2 ^ 31 }
+    requires names { length names.now.forms < 2 ^ 31 }
+    ensures { (result ≡ true) ↔ TwinIn (forms_in names.now.forms) (length names.now.forms) seeker.tag seeker.origin seeker.item (front_in tree.now) place twin }
+{
+    match tree {
+        WindowTree::Step { rest, .. } => {
+            if place == 0 {
+                return false;
+            }
+            has_twin_at(rest, names, seeker, place - 1, twin)
+        }
+        WindowTree::Test { yes, no, .. } => {
+            if place == 0 {
+                return false;
+            }
+            let on_yes = size_up_to(yes, place);
+            if place - 1 >= on_yes {
+                return has_twin_at(no, names, seeker, place - 1 - on_yes, twin);
+            }
+            if both_unfinished(yes, no) {
+                return is_twin_here(names, seeker, no, twin);
+            }
+            has_twin_at(yes, names, seeker, place - 1, twin)
+        }
+        WindowTree::Node { .. } => false,
+        WindowTree::Exit { .. } => false,
+        WindowTree::Stop => false,
+        WindowTree::Trap { .. } => false,
     }
 }

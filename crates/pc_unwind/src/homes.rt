@@ -10,7 +10,7 @@ use pc_word::Operand;
 
 /// The home of each variable, where the first one in a list counts; 0 where there is none.
 #[tactic(auto, using(crate::proofs::StubHomes::homes))]
-pub(crate) fn homes_by_variable(homes: &[Home]) -> [Operand; VARIABLES]
+pub fn homes_by_variable(homes: &[Home]) -> [Operand; VARIABLES]
     requires { AllByRecursion (λ home. home.variable < first_new) homes.now }
     ensures { homes_in result ≡ home_of homes.now }
 {

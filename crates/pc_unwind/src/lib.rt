@@ -12,5 +12,7 @@ mod tags;
 mod unwinding;
 mod walking;
 
+pub use homes::homes_by_variable;
 pub use laws::laws_of_unwinding;
+pub use nodes::{placed, split};
 pub use unwinding::unwind;

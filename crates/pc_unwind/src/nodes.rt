@@ -20,7 +20,7 @@ fn is_split(tree: &WindowTree, at_root: bool) -> bool
 }
 
 /// The tree with each item and each test in a node of its own; the tree itself where it is so already.
-pub(crate) fn split(alloc: Global, tree: WindowTree) -> Result<WindowTree, AllocError>
+pub fn split(alloc: Global, tree: WindowTree) -> Result<WindowTree, AllocError>
     ensures tree { IfOk result (λ single. tree_in single ≡ tree_in tree) }
     ensures nodes { IfOk result (λ single. InNodes true single) }
 {
@@ -80,11 +80,7 @@ fn in_single_nodes(alloc: Global, tree: WindowTree) -> Result<WindowTree, AllocE
 /// A tree as what stands at the root of a node, or else below an item or test: there in a node of
 /// its own, where it has an item or test.
 #[tactic(auto, using(pc_window::proofs::GraftsStored::nodes))]
-pub(crate) fn placed(
-    alloc: Global,
-    tree: WindowTree,
-    at_root: bool,
-) -> Result<WindowTree, AllocError>
+pub fn placed(alloc: Global, tree: WindowTree, at_root: bool) -> Result<WindowTree, AllocError>
     requires { InNodes true tree }
     ensures tree { IfOk result (λ placed. tree_in placed ≡ tree_in tree) }
     ensures nodes { IfOk result (λ placed. InNodes at_root placed) }

@@ -112,6 +112,16 @@ TwinIn forms next tag origin item (Split t o on on_yes on_no) place twin =
     (TwinIn forms next tag origin item on_no (place - 1 - tree_size (whole on_yes)) twin))
 TwinIn forms next tag origin item (Unfinished rest) place twin = ⊥
 
+-- the same of an item or test; a test has none
+abbrev pub TwinFor : (ℕ → Form) → (next tag origin : ℕ) → Option Item → Front → ℕ → ℕ → Type 0
+TwinFor forms next tag origin (Some item) from place k = TwinIn forms next tag origin item from place k
+TwinFor forms next tag origin None from place k = ⊥
+
+-- what comes alone, or with a twin that it has at this place
+abbrev pub ComesWith : (ℕ → Form) → (next tag origin : ℕ) → Option Item → Front → ℕ → Option ℕ → Type 0
+ComesWith forms next tag origin what from place None = Unit {0}
+ComesWith forms next tag origin what from place (Some k) = TwinFor forms next tag origin what from place k
+
 -- from a place of a tree to another this is the first twin, or there is none
 abbrev pub IsFirstFrom : (ℕ → Form) → (next tag origin : ℕ) → Item → Tree → (from to : ℕ) → Option ℕ → Type 0
 IsFirstFrom forms next tag origin item all from to None = (k : ℕ) → from ≤ k → k < to → TwinHere forms next tag origin item all k → ⊥

@@ -54,3 +54,10 @@ IsBest known w place (Some best) =
 
 pub record BestBefore (known : ℕ → Bool) (w : Window) (place : ℕ) (best : Option ReadyNode) : Type 0 where
   pub is : IsBest known w place best
+
+-- ---- at one place
+
+-- what stands at a place is ready and has room, or nothing there is
+abbrev pub IsReadyOrNot : (known : ℕ → Bool) → Window → ℕ → Option ReadyNode → Type 0
+IsReadyOrNot known w place (Some it) = StandsReady known w it × (it.place ≡ place)
+IsReadyOrNot known w place None = (r : ReadyPlace known w) → r.place ≡ place → ⊥

@@ -1,6 +1,6 @@
 -- Ways: what leads to an item or test of a tree, without its place. At each test above it a side is taken, yes where it is true;
 -- its depth is how many items stand above it behind the front.
-use Rattle.std.specs.Prelude.{ℕ, suc, ◌+◌, ◌-◌, Bool, true, false, List, [], ◌∷◌, Option, Some, None, if◌then◌else◌, nat_eq}
+use Rattle.std.specs.Prelude.{ℕ, suc, ◌+◌, ◌-◌, Bool, true, false, List, [], ◌∷◌, Option, Some, None, if◌then◌else◌, nat_eq, nat_lt}
 use Rattle.pc_word.specs.declared.item.Item.{Item}
 use Rattle.pc_word.specs.declared.item.Operand.{Operand}
 use Rattle.pc_word.specs.Items.{dest_of}
@@ -87,3 +87,36 @@ landed_along c (Split tag origin on p q) (side ∷ sides) depth =
     else Split tag origin on (landed_along c p sides depth) q)
     else Split tag origin on p (landed_along c q sides depth)
 landed_along c (Unfinished from) sides depth = leaf_along c c.item from sides depth
+
+-- ---- the way to a place
+
+-- the sides that lead to a place of a tree
+abbrev pub sides_to : Tree → ℕ → List Bool
+sides_to (Pending tag origin item rest) place = if nat_eq place 0 then [] else sides_to rest (place - 1)
+sides_to (Undecided tag origin on p q) place =
+    if nat_eq place 0 then []
+    else if nat_lt (place - 1) (tree_size p) then true ∷ sides_to p (place - 1)
+    else false ∷ sides_to q (place - 1 - tree_size p)
+sides_to (Exit region tag homes) place = []
+sides_to Stop_exit place = []
+sides_to (Trap_exit kind line) place = []
+
+-- how many items stand above it
+abbrev pub depth_in : Tree → ℕ → ℕ
+depth_in (Pending tag origin item rest) place = if nat_eq place 0 then 0 else suc (depth_in rest (place - 1))
+depth_in (Undecided tag origin on p q) place =
+    if nat_eq place 0 then 0
+    else if nat_lt (place - 1) (tree_size p) then depth_in p (place - 1)
+    else depth_in q (place - 1 - tree_size p)
+depth_in (Exit region tag homes) place = 0
+depth_in Stop_exit place = 0
+depth_in (Trap_exit kind line) place = 0
+
+-- how many of these stand behind the front
+abbrev pub depth_behind : Front → ℕ → ℕ
+depth_behind (Issued tag origin item rest) place = if nat_eq place 0 then 0 else depth_behind rest (place - 1)
+depth_behind (Split tag origin on p q) place =
+    if nat_eq place 0 then 0
+    else if nat_lt (place - 1) (tree_size (whole p)) then depth_behind p (place - 1)
+    else depth_behind q (place - 1 - tree_size (whole p))
+depth_behind (Unfinished rest) place = depth_in rest place
