@@ -12,7 +12,7 @@ use pc_word::{Item, Operand};
 use std::alloc::{AllocError, Global};
 
 /// Whether one of two operands is a name.
-fn some_name(source: Operand, operand: Operand) -> bool
+pub fn some_name(source: Operand, operand: Operand) -> bool
     ensures { result ≡ some_name source operand }
 {
     match source {

@@ -9,7 +9,7 @@ use crate::fact::Fact;
 use pc_word::{Item, OpCode, Operand, Operands};
 
 /// Whether operands are the same.
-pub(crate) fn same_operand(one: Operand, other: Operand) -> bool
+pub fn same_operand(one: Operand, other: Operand) -> bool
     ensures { result ≡ same_operand one other }
 {
     match one {
@@ -51,7 +51,7 @@ fn is_said(facts: &[Fact], source: Operand, operand: Operand) -> bool
 }
 
 /// Whether an operand of a row matches one of a front.
-pub(crate) fn operands_match(facts: &[Fact], source: Operand, operand: Operand) -> bool
+pub fn operands_match(facts: &[Fact], source: Operand, operand: Operand) -> bool
     ensures { result ≡ operands_match (facts_of facts.now) source operand }
 {
     match source {

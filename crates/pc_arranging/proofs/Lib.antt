@@ -1,0 +1,14 @@
+pub mod Numbers
+pub mod Begun
+pub mod Opened
+pub mod Exchanged
+pub mod Small
+pub mod Opens
+pub mod Uses
+pub mod Enters
+pub mod Homes
+pub mod Entered
+pub mod Kept
+pub mod Lawful
+pub mod Once
+pub mod Doing

@@ -1,0 +1,15 @@
+pub mod SourceLists
+pub mod FactLists
+pub mod StartFacts
+pub mod SettledWindows
+pub mod SettledLaws
+pub mod EnteredRegions
+pub mod HomeLists
+pub mod Rooms
+pub mod BegunWindows
+pub mod BegunLaws
+pub mod EntryFacts
+pub mod FoundArrivals
+pub mod EndLeaves
+pub mod FoundProgress
+pub mod LeadingOn

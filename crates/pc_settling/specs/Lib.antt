@@ -1,0 +1,9 @@
+pub mod Remaining
+pub mod Settled
+pub mod Begun
+pub mod Arrives
+pub mod Start
+pub mod Stored
+pub mod StoredFacts
+pub mod Laws
+pub mod models
