@@ -1,10 +1,10 @@
 -- What is ready comes into the front alone, whether it has a twin or not.
-use Rattle.std.proofs.Common.{◌≡◌, ℕ, suc, ◌+◌, Bool, true, false, ◌||◌, Option, Some, None, ◌⊎◌, inl, inr, refl, sym, subst, arith}
+use Rattle.std.proofs.Common.{◌≡◌, ℕ, Bool, true, false, ◌||◌, Option, Some, None, ◌⊎◌, inl, inr, refl, sym, subst, arith}
 use Rattle.pc_word.specs.declared.item.Item.{Item}
 use Rattle.pc_word.specs.Items.{dest_of}
 use Rattle.pc_word.specs.Commit.{writes}
 use Rattle.pc_linear.specs.Form.{Form}
-use Rattle.pc_window.specs.Tree.{Tree, Front, Issued, Split, Unfinished, whole, tree_size}
+use Rattle.pc_window.specs.Tree.{Tree, Front, Issued, Split, Unfinished, whole}
 use Rattle.pc_window.specs.Names.{and_dest, IsNew, Scoped, Unwritten, NotWritten}
 use Rattle.pc_window.specs.Jump.{Without, MayComeBehind, EntersFront, Lands, Lands_renamed, Lands_test, Behind_item, On_yes, On_no}
 use Rattle.pc_window.specs.Filled.{priority_of}

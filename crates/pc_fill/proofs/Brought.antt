@@ -1,14 +1,13 @@
 -- What is brought from a place by code has come by a jump, and nothing comes from there where code brings nothing.
-use Rattle.std.proofs.Common.{◌≡◌, ◌↔◌, ℕ, Bool, true, false, Option, Some, None, refl, sym, ◌∙◌, ap, subst, arith}
+use Rattle.std.proofs.Common.{◌≡◌, ◌↔◌, ℕ, Bool, true, false, Option, Some, None, refl, sym, ◌∙◌, ap, subst}
 use Rattle.std.specs.Prelude.{slice_get}
 use Rattle.pc_word.proofs.Truth.{failed, held}
-use Rattle.pc_word.specs.declared.item.Item.{Item}
 use Rattle.pc_window.specs.declared.window.Window.{Window as StoredWindow}
 use Rattle.pc_window.specs.Tree.{Tree, whole}
 use Rattle.pc_window.specs.Names.{uses, Scoped}
 use Rattle.pc_window.specs.WindowRun.{Window}
-use Rattle.pc_window.specs.Filled.{priority_of, Jump}
-use Rattle.pc_window.specs.Ready.{HasFresh, ReadyPlace}
+use Rattle.pc_window.specs.Filled.{priority_of}
+use Rattle.pc_window.specs.Ready.{HasFresh}
 use Rattle.pc_window.specs.Steps.{IsProper}
 use Rattle.pc_window.specs.StoredWindow.{tree_in, front_in, window_in, NodesBehind}
 use Rattle.pc_window.proofs.Readiness.{jumps_were_ready}
@@ -19,7 +18,7 @@ use Rattle.pc_fill.specs.declared.first.ReadyNode.{ReadyNode}
 use Rattle.pc_fill.specs.Bringing.{IsTwin, IsBrought, BringsOrNot}
 use Rattle.pc_fill.specs.FirstReady.{StandsReady}
 use Rattle.pc_fill.specs.models.Landing.{ComesWith, landed_window}
-use Rattle.pc_fill.specs.models.Places.{Node, nodes_of, node_of, node_in, unwritten_above, IsReadyHere}
+use Rattle.pc_fill.specs.models.Places.{nodes_of, node_of, node_in, unwritten_above, IsReadyHere}
 use Rattle.pc_fill.specs.models.Search.{IsReadyOrNot}
 use Rattle.pc_fill.proofs.AtPlaces.{ready_known}
 use Rattle.pc_fill.proofs.Entered.{EnteredAs, entered_as}

@@ -7,8 +7,8 @@ use Rattle.pc_word.specs.declared.item.Operand.{Operand}
 use Rattle.pc_window.specs.Tree.{Front, whole}
 use Rattle.pc_window.specs.WindowRun.{Window, supply_of}
 use Rattle.pc_window.specs.Filled.{Priority, priority_of, given_supply, IsNext, IsWindow, HasSpace, Jump}
-use Rattle.pc_window.specs.Ready.{HasFresh, ReadyPlace}
-use Rattle.pc_window.proofs.Readiness.{Alike, SameThing, Comes, alike, dest_named}
+use Rattle.pc_window.specs.Ready.{HasFresh}
+use Rattle.pc_window.proofs.Readiness.{Alike, SameThing, alike, dest_named}
 use Rattle.pc_fill.specs.declared.first.ReadyNode.{ReadyNode}
 use Rattle.pc_fill.specs.Bringing.{IsTwin}
 use Rattle.pc_fill.specs.FirstReady.{StandsReady}

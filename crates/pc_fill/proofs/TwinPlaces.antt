@@ -1,12 +1,11 @@
 -- Whether an item has a twin at a place, as code looks there.
-use Rattle.std.proofs.Common.{◌≡◌, ◌≢◌, ◌↔◌, ℕ, ◌-◌, ◌<◌, ◌≤◌, Bool, true, false, List, [], ◌∷◌, Option, Some, None, sym, ◌∙◌, ap, subst, lt-ltb, arith}
+use Rattle.std.proofs.Common.{◌≡◌, ◌≢◌, ◌↔◌, ℕ, ◌-◌, ◌<◌, ◌≤◌, Bool, true, false, Option, Some, None, sym, ◌∙◌, ap, subst, lt-ltb, arith}
 use Rattle.std.specs.Prelude.{nat_lt, slice_get}
 use Rattle.pc_word.proofs.Truth.{of_most, fails_here, same_fact, holds_here}
 use Rattle.pc_word.specs.declared.item.Item.{Item}
 use Rattle.pc_word.specs.declared.item.Operand.{Operand}
 use Rattle.pc_word.specs.Items.{operands_of}
 use Rattle.pc_linear.specs.Form.{Form}
-use Rattle.pc_window.specs.Hold.{Side}
 use Rattle.pc_window.specs.Tree.{Tree, Front, Issued, Split, whole, tree_size}
 use Rattle.pc_window.specs.declared.tree.WindowTree.{WindowTree}
 use Rattle.pc_window.specs.StoredWindow.{tree_in, front_in}
