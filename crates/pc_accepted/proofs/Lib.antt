@@ -1,0 +1,6 @@
+mod Proper
+mod Arrivals
+mod Rests
+mod Passed
+mod Shown
+mod Once

@@ -1,0 +1,4 @@
+pub mod Arrivals
+pub mod Leading
+pub mod Accepted
+pub mod Laws
