@@ -5,38 +5,44 @@ use Rattle.std.specs.Prelude.{IsSome}
 use Rattle.std.specs.Borrow.{Bor}
 use Rattle.std.specs.Io.KnownBytes.{Appends}
 use Rattle.pc_word.specs.Count.{Rose}
+use Rattle.pc_syntax.specs.Source.{ResolvedProgram}
 use Rattle.pc_syntax.specs.Unit.{TranslationUnit}
+use Rattle.pc_check.specs.Sizes.{resolved_size}
 use Rattle.pc_flow.specs.FlowGraph.{FlowGraph}
 use Rattle.pc_table.specs.StoredTable.{table_of}
 use Rattle.pc_machine.specs.MachineCode.{row_of}
 use Rattle.pc_object.specs.ObjectText.{CodeWithNotes, IsObject, object_of, object_text}
+use Rattle.pc_compile.specs.Compiled.{IsUncompiled}
+use Rattle.pc_compile.specs.declared.error.CompileError.TheVariants as compile
 use Rattle.pc_compile.specs.declared.program.Compiled.{Compiled}
 use Rattle.pc_outside.specs.Shelf.{Files, Shelved, ReadFaultOf, WriteFaultOf, ReadKeeps, OnlyFileDiffers, HoldsFile}
 use Rattle.pc_outside.specs.Stream.{AppendsPart}
-use Rattle.pc_word.specs.SourceLimits.{most_source}
-use Rattle.pc_command.specs.Requests.{CompileRequest, SourcePlace, OfFile}
+use Rattle.pc_command.specs.Requests.{CompileRequest, SourcePlace}
 use Rattle.pc_report.specs.declared.fault.Speaker.TheVariants.{Pcc}
 use Rattle.pc_report.specs.declared.fault.SourceFault.{SourceFault}
-use Rattle.pc_report.specs.declared.fault.SourceFault.TheVariants.{TooLong}
+use Rattle.pc_report.specs.declared.fault.SourceFault.TheVariants.{TooLong, TooLarge}
 use Rattle.pc_report.specs.declared.fault.ToolFault.{ToolFault}
 use Rattle.pc_report.specs.declared.fault.ToolFault.TheVariants as fault
 use Rattle.pc_report.specs.Report.{PassCount, report_lines}
 use Rattle.pc_tool.specs.Compilation.{WritesObject, report_on}
 use Rattle.pc_tool.specs.Compiler.{CompilerEnds, Done, Misused, Unread, Refused, Unwritten, Unreported, Lacking, CompilerLacks, Early, Writing, Reporting, CompilerPromise}
 use Rattle.pc_driver.specs.Due.{Told}
-use Rattle.pc_driver.specs.Files.{HoldsText}
-use Rattle.pc_tool.specs.Files.{HasSource, HoldsSource}
+use Rattle.pc_source.specs.Files.{HasSource, HoldsSource}
 use Rattle.pc_driver.specs.Streams.{Streamed}
 use Rattle.pc_driver.specs.Outside.{Outside}
 use Rattle.pc_tool.specs.Scheduled.{IsScheduledAs}
-use Rattle.pc_tool.specs.Source.{IsSomeSource}
-use Rattle.pc_tool.specs.SourceFaults.{HasFault, Long}
+use Rattle.pc_source.specs.Source.{IsSomeSource}
+use Rattle.pc_source.specs.SourceFaults.{HasFault}
+use Rattle.pc_source.specs.Reading.{FailsToRead, Not_read, Too_long, IsChecked}
+use Rattle.pc_source.specs.declared.source.SourceError.TheVariants as error
 use Rattle.pc_tool.specs.declared.translation.Translation.{Translation}
-use Rattle.pc_tool.specs.models.Compiling.{FailsToRead, Not_read, Too_long, No_memory, HasTranslation, reported, EndsWith, With_compiled, With_fault}
+use Rattle.pc_tool.specs.models.Translating.{HasProgram, HasTranslation}
+use Rattle.pc_tool.specs.models.Compiling.{reported, EndsWith, With_compiled, With_fault}
 use Rattle.pc_tool.specs.models.Compiling.{ReportEnds, Unasked, Sent, Broken_off, Unmade, WriteEnds, Written, Not_written, Write_lacks}
-use Rattle.pc_driver.proofs.Files.{held_map}
 use Rattle.pc_driver.proofs.Streams.{sends_part, sends_none}
-use Rattle.pc_tool.proofs.Files.{has_holds, same_keeps}
+use Rattle.pc_source.proofs.CheckedTexts.{is_too_large}
+use Rattle.pc_source.proofs.Files.{has_holds}
+use Rattle.pc_tool.proofs.Shelves.{same_keeps}
 
 -- ---- after a read
 
@@ -99,13 +105,24 @@ ends_behind Passed passes request old mid new out out_now keeps answer (With_fau
 
 -- ---- each step
 
--- no source was read
-pub read_ends : (Passed : FlowGraph → FlowGraph → Type 0) (passes : List PassCount) (request : CompileRequest) (old new : Shelved) (out : Streamed) (why : ToolFault)
-    → ReadKeeps old new → FailsToRead request.source old new why
-    → EndsWith Passed passes old new out out (Some request) (Err why)
-read_ends Passed passes request old new out why keeps (Not_read is fault) = With_fault (Unread is keeps fault refl)
-read_ends Passed passes request old new out why keeps (Too_long long) = With_fault (Refused keeps long refl)
-read_ends Passed passes request old new out why keeps No_memory = With_fault (Lacking (Early keeps refl))
+-- the file of the source was not read
+pub unread_ends : (Passed : FlowGraph → FlowGraph → Type 0) (passes : List PassCount) (request : CompileRequest) (old new : Shelved) (out : Streamed) (name : Bor (List ℕ))
+    → ReadKeeps old new → FailsToRead request.source old new (error.Unread name)
+    → EndsWith Passed passes old new out out (Some request) (Err (fault.ReadFile Pcc name))
+unread_ends Passed passes request old new out name keeps (Not_read is failed) = With_fault (Unread is keeps failed refl)
+unread_ends Passed passes request old new out name keeps _ = absurd cc
+
+-- its text is too long
+pub long_ends : (Passed : FlowGraph → FlowGraph → Type 0) (passes : List PassCount) (request : CompileRequest) (old new : Shelved) (out : Streamed)
+    → ReadKeeps old new → FailsToRead request.source old new error.TooLong
+    → EndsWith Passed passes old new out out (Some request) (Err (fault.Source Pcc TooLong))
+long_ends Passed passes request old new out keeps (Too_long long) = With_fault (Refused keeps long refl)
+long_ends Passed passes request old new out keeps _ = absurd cc
+
+-- nothing was written, for want of memory
+pub lacking_ends : (Passed : FlowGraph → FlowGraph → Type 0) (passes : List PassCount) (given : Option CompileRequest) (old new : Shelved) (out : Streamed) → ReadKeeps old new
+    → EndsWith Passed passes old new out out given (Err (fault.NoMemory Pcc))
+lacking_ends Passed passes given old new out keeps = With_fault (Lacking (Early keeps refl))
 
 -- nothing was touched, for want of memory
 pub memory_ends : (Passed : FlowGraph → FlowGraph → Type 0) (passes : List PassCount) (given : Option CompileRequest) (old : Shelved) (out : Streamed)
@@ -124,6 +141,19 @@ pub text_ends : (Passed : FlowGraph → FlowGraph → Type 0) (passes : List Pas
 text_ends Passed passes request old out text what has faulty =
     With_fault (Refused (same_keeps old) (has_holds old.held request.source text (λ text. HasFault text what) has faulty) refl)
 
+-- its text is read as this program
+pub has_program : (held : Option Files) (source : SourcePlace) (text : List ℕ) (checked : ResolvedProgram) → HasSource held source text → IsChecked text checked
+    → HasProgram held source checked
+has_program held source text checked has is = record { text = text; in_source = has; is = is }
+
+-- which is too large
+pub large_ends : (Passed : FlowGraph → FlowGraph → Type 0) (passes : List PassCount) (request : CompileRequest) (old : Shelved) (out : Streamed) (checked : ResolvedProgram) (nodes : ℕ)
+    → HasProgram old.held request.source checked → IsUncompiled (resolved_size checked) (compile.TooLarge nodes)
+    → EndsWith Passed passes old old out out (Some request) (Err (fault.Source Pcc (TooLarge nodes)))
+large_ends Passed passes request old out checked nodes has (many, is) =
+    text_ends Passed passes request old out has.text (TooLarge nodes) has.in_source
+    (subst (λ (nodes : ℕ). HasFault has.text (TooLarge nodes)) (sym is) (is_too_large has.text checked has.is many))
+
 -- ---- an object that was written
 
 module _ (Passed : FlowGraph → FlowGraph → Type 0) (passes : List PassCount) (request : CompileRequest) (old new : Shelved) (out out_now : Streamed) (it : Translation)
@@ -132,31 +162,31 @@ module _ (Passed : FlowGraph → FlowGraph → Type 0) (passes : List PassCount)
   object = object_of it.compiled.object
 
   is_source : HoldsSource old.held request.source IsSomeSource
-  is_source = has_holds old.held request.source has.text IsSomeSource has.in_source (has.is.unit, has.is.translates.source)
+  is_source = has_holds old.held request.source has.text IsSomeSource has.in_source (has.unit, has.translates.source)
 
   -- as what is handed out, or as some such
-  as_handed : IsScheduledAs Passed (Some it.compiled) request has.is.unit object
+  as_handed : IsScheduledAs Passed (Some it.compiled) request has.unit object
   unfolding IsScheduledAs
-  as_handed = (refl, has.is.compiled)
+  as_handed = (refl, has.compiled)
 
-  as_some : IsScheduledAs Passed None request has.is.unit object
+  as_some : IsScheduledAs Passed None request has.unit object
   unfolding IsScheduledAs
-  as_some = record { flow = it.compiled.flow; table = table_of it.compiled.table; choices = it.compiled.choices; compiled = has.is.compiled }
+  as_some = record { flow = it.compiled.flow; table = table_of it.compiled.table; choices = it.compiled.choices; compiled = has.compiled }
 
-  compiled : (Scheduled : CompileRequest → TranslationUnit → CodeWithNotes → Type 0) → Scheduled request has.is.unit object
-      → HoldsFile old.held new.held request.object it.bytes.items → WritesObject Scheduled request has.is.unit object old new
+  compiled : (Scheduled : CompileRequest → TranslationUnit → CodeWithNotes → Type 0) → Scheduled request has.unit object
+      → HoldsFile old.held new.held request.object it.bytes.items → WritesObject Scheduled request has.unit object old new
   compiled Scheduled scheduled written = record {
     text = has.text;
     in_source = has.in_source;
-    translates = has.is.translates;
-    written = subst (λ bytes. HoldsFile old.held new.held request.object bytes) has.is.bytes written;
+    translates = has.translates;
+    written = subst (λ bytes. HoldsFile old.held new.held request.object bytes) has.bytes written;
     scheduled = scheduled;
   }
 
-  same_report : reported it.compiled passes ≡ report_on has.is.unit object passes
-  same_report = rw (has.is.nodes, length-map it.compiled.object.code.rows row_of) refl
+  same_report : reported it.compiled passes ≡ report_on has.unit object passes
+  same_report = rw (has.nodes, length-map it.compiled.object.code.rows row_of) refl
 
-  same_lines : report_lines (reported it.compiled passes) ≡ report_lines (report_on has.is.unit object passes)
+  same_lines : report_lines (reported it.compiled passes) ≡ report_lines (report_on has.unit object passes)
   same_lines = ap report_lines same_report
 
   -- it was written, and nothing is due
@@ -172,7 +202,7 @@ module _ (Passed : FlowGraph → FlowGraph → Type 0) (passes : List PassCount)
   reports_part why written (Broken_off asked rose part) =
       Unreported asked (compiled _ as_some written) rose (subst (λ text. AppendsPart out.told out_now.told text) same_lines part)
   reports_part why written (Unmade asked same) =
-      Lacking (Reporting asked (compiled _ as_some written) (sends_none out out_now (report_lines (report_on has.is.unit object passes)) same))
+      Lacking (Reporting asked (compiled _ as_some written) (sends_none out out_now (report_lines (report_on has.unit object passes)) same))
 
   -- what stands after the object and the report, of which these are the bytes and the counts
   as_written : (bytes : List ℕ) (counts : List PassCount) (due is : Option ToolFault) → bytes ≡ it.bytes.items → counts ≡ passes → due ≡ is
@@ -205,20 +235,7 @@ module _ (Passed : FlowGraph → FlowGraph → Type 0) (passes : List PassCount)
       → EndsWith Passed passes old new out out_now (Some request) (Err why)
   due_ends bytes counts due why same_bytes same_counts same_due ends = one_is_due why (as_written bytes counts due (Some why) same_bytes same_counts same_due ends)
 
--- ---- what is due after a read and after a report
-
-pub not_read : (name : Bor (List ℕ)) (old new : Shelved) → ReadFaultOf old new name.now → FailsToRead (OfFile name.now) old new (fault.ReadFile Pcc name)
-not_read name old new failed = Not_read refl failed
-
-pub too_long : (name : List ℕ) (old new : Shelved) → HoldsText old.held name (λ text. most_source < length text)
-    → FailsToRead (OfFile name) old new (fault.Source Pcc TooLong)
-too_long name old new long =
-    Too_long (held_map old.held name (λ text. most_source < length text) (λ text. HasFault text TooLong) (λ text big. Long big) long)
-
-pub no_memory : (source : SourcePlace) (old new : Shelved) → FailsToRead source old new (fault.NoMemory Pcc)
-no_memory source old new = No_memory
-
-pub ruleset reads_due = (not_read, too_long, no_memory)
+-- ---- what is due after a report
 
 module _ (text : List ℕ) (old new : Streamed) where
   pub report_unasked : (asked : Bool) → asked ≡ false → ReportEnds asked text old old None
@@ -303,9 +320,13 @@ due_promise given Passed passes old new why code (With_fault ends) input (inr to
 pub ruleset compiler_promises = (done_promise, handed_object)
 
 pub ruleset compiler_endings = (
-  read_ends,
+  unread_ends,
+  long_ends,
+  lacking_ends,
   memory_ends,
   usage_ends,
   text_ends,
+  has_program,
+  large_ends,
   ends_behind,
 )

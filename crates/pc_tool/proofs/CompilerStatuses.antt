@@ -8,15 +8,16 @@ use Rattle.pc_command.specs.Requests.{CompileRequest}
 use Rattle.pc_report.specs.Report.{PassCount}
 use Rattle.pc_report.specs.declared.fault.ToolFault.{ToolFault}
 use Rattle.pc_tool.specs.Compiler.{CompilerEnds, Done, Misused, Unread, Refused, Unwritten, Unreported, Lacking, CompilerLacks, Early, Writing, Reporting, CompilerPromise}
-use Rattle.pc_tool.specs.CompilerLaws.{HasCompiled, HasReadFault, HasWriteFault, KeepsOthers, IsTold, CompilerStatuses}
+use Rattle.pc_tool.specs.CompilerLaws.{HasCompiled, HasReadFault, HasWriteFault, KeepsOthers, CompilerStatuses}
 use Rattle.pc_tool.specs.Compilation.{WritesObject, Reports, report_on}
 use Rattle.pc_driver.specs.Due.{Told}
-use Rattle.pc_tool.specs.Files.{HoldsSource}
+use Rattle.pc_source.specs.Files.{HoldsSource, IsTold}
 use Rattle.pc_driver.specs.Outside.{Outside, HasErrorFault}
-use Rattle.pc_tool.specs.Source.{IsSomeSource, IsNoSource}
-use Rattle.pc_tool.specs.SourceFaults.{HasFault}
-use Rattle.pc_tool.proofs.Files.{source_map, source_told, text_told, kept_differs, written_differs, same_keeps}
-use Rattle.pc_tool.proofs.Sources.{fault_is_none}
+use Rattle.pc_source.specs.Source.{IsSomeSource, IsNoSource}
+use Rattle.pc_source.specs.SourceFaults.{HasFault}
+use Rattle.pc_source.proofs.Files.{source_map, source_told, text_told}
+use Rattle.pc_tool.proofs.Shelves.{kept_differs, written_differs, same_keeps}
+use Rattle.pc_source.proofs.Sources.{fault_is_none}
 use Rattle.pc_driver.proofs.Choices.{either_first, third_first, last_first}
 use Rattle.pc_driver.proofs.Statuses.{due_status, status_of}
 

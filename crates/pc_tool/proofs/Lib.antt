@@ -1,6 +1,4 @@
 pub mod CompilerEndings
 pub mod CompilerStatuses
-pub mod Files
-pub mod FrontEnd
-pub mod Sources
+pub mod Shelves
 pub mod Translations

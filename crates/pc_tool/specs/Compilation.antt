@@ -11,12 +11,12 @@ use Rattle.pc_object.specs.ObjectText.{CodeWithNotes, object_text}
 use Rattle.pc_outside.specs.Shelf.{Shelved, HoldsFile}
 use Rattle.pc_command.specs.Requests.{CompileRequest}
 use Rattle.pc_report.specs.Report.{PassCount, Report, report_lines}
-use Rattle.pc_tool.specs.Files.{HasSource}
-use Rattle.pc_tool.specs.Meaning.{Same}
+use Rattle.pc_source.specs.Files.{HasSource}
+use Rattle.pc_source.specs.Meaning.{Same}
 use Rattle.pc_driver.specs.Objects.{Loads}
 use Rattle.pc_driver.specs.Streams.{Streamed}
 use Rattle.pc_calls.specs.Inlining.{inlined_unit}
-use Rattle.pc_tool.specs.Source.{IsSource}
+use Rattle.pc_source.specs.Source.{IsSource}
 
 -- The text is the source of this program; the object loads under the limits, with the program's arrays and their data, leaves lead to
 -- each of its rows from row 0, and it is compact; for every input of words it does what the source means.

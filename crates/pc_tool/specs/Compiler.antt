@@ -14,11 +14,11 @@ use Rattle.pc_report.specs.declared.fault.ToolFault.TheVariants as fault
 use Rattle.pc_report.specs.Report.{PassCount, report_lines}
 use Rattle.pc_tool.specs.Compilation.{WritesObject, Reports, report_on}
 use Rattle.pc_driver.specs.Due.{Told}
-use Rattle.pc_tool.specs.Files.{HoldsSource}
+use Rattle.pc_source.specs.Files.{HoldsSource}
 use Rattle.pc_driver.specs.Streams.{Streamed, SendsFront}
 use Rattle.pc_driver.specs.Outside.{Outside}
-use Rattle.pc_tool.specs.Source.{IsSomeSource}
-use Rattle.pc_tool.specs.SourceFaults.{HasFault}
+use Rattle.pc_source.specs.Source.{IsSomeSource}
+use Rattle.pc_source.specs.SourceFaults.{HasFault}
 
 -- What stands where memory ran out: nothing was written and sent; or SRC is a source, and at most OBJ differs; or OBJ holds its
 -- object, and the front of the report was sent.

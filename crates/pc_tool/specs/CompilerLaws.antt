@@ -1,19 +1,17 @@
 -- What follows from the compiler's promise for each status, for each command and for each text.
 use Rattle.std.specs.Prelude.{◌≡◌, ℕ, ◌≤◌, ◌⊎◌, true, false, List, Option, Some, None}
-use Rattle.std.specs.FinMap.{get}
 use Rattle.std.specs.Option.{IsSomeAnd}
 use Rattle.pc_word.specs.Count.{Rose}
 use Rattle.pc_syntax.specs.Unit.{TranslationUnit}
 use Rattle.pc_object.specs.ObjectText.{CodeWithNotes}
-use Rattle.pc_outside.specs.Shelf.{Files, ReadFaultOf, WriteFaultOf, ReadKeeps, OnlyFileDiffers}
-use Rattle.pc_command.specs.Requests.{CompileRequest, SourcePlace, OfFile, OfSample}
+use Rattle.pc_outside.specs.Shelf.{ReadFaultOf, WriteFaultOf, ReadKeeps, OnlyFileDiffers}
+use Rattle.pc_command.specs.Requests.{CompileRequest, OfFile}
 use Rattle.pc_report.specs.Report.{PassCount}
-use Rattle.pc_sample.specs.SampleText.{sample_text}
 use Rattle.pc_tool.specs.Compilation.{WritesObject, Reports, report_on}
 use Rattle.pc_tool.specs.Compiler.{CompilerLacks, CompilerPromise}
-use Rattle.pc_tool.specs.Files.{HoldsSource}
+use Rattle.pc_source.specs.Files.{HoldsSource, IsTold}
 use Rattle.pc_driver.specs.Outside.{Outside, HasErrorFault}
-use Rattle.pc_tool.specs.Source.{IsSomeSource, IsNoSource}
+use Rattle.pc_source.specs.Source.{IsSomeSource, IsNoSource}
 
 -- the object at OBJ does what the source does, the report was sent where it is asked for, and nothing was told
 pub record HasCompiled (Scheduled : CompileRequest → TranslationUnit → CodeWithNotes → Type 0) (passes : List PassCount) (old new : Outside) (request : CompileRequest) : Type 0 where
@@ -38,11 +36,6 @@ HasWriteFault old new request =
 abbrev pub KeepsOthers : Option CompileRequest → Outside → Outside → Type 0
 KeepsOthers None old new = new.shelf.held ≡ old.shelf.held
 KeepsOthers (Some request) old new = OnlyFileDiffers old.shelf.held new.shelf.held request.object
-
--- the shelf tells its files, and the source has this text
-abbrev pub IsTold : Option Files → SourcePlace → List ℕ → Type 0
-IsTold held (OfFile name) text = (files : Files) × (held ≡ Some files) × (get files name ≡ Some text)
-IsTold held (OfSample number) text = text ≡ sample_text number
 
 -- what follows
 pub record CompilerStatuses (given : Option CompileRequest) (Scheduled : CompileRequest → TranslationUnit → CodeWithNotes → Type 0)

@@ -3,7 +3,3 @@ pub mod Scheduled
 pub mod Compilation
 pub mod Compiler
 pub mod CompilerLaws
-pub mod Files
-pub mod Meaning
-pub mod Source
-pub mod SourceFaults

@@ -1,30 +1,32 @@
 //! The compiler: from the words of its command to the object on the shelf and the report.
 ghost use Rattle.std.specs.Prelude.{◌≡◌, ◌≤◌, ◌↔◌, length, map, true, IfOk, IfSome, IsSome, None, OnOk, Some};
+ghost use Rattle.pc_check.specs.Checks.{resolved_of};
 ghost use Rattle.pc_command.specs.Requests.{compile_command_of, compile_request, source_place};
 ghost use Rattle.pc_command.specs.Words.{spelled};
 ghost use Rattle.pc_tool.specs.Compilation.{counts_of};
 ghost use Rattle.pc_tool.specs.Compiler.{CompilerPromise};
-ghost use Rattle.pc_tool.specs.Files.{HasSource};
 ghost use Rattle.pc_driver.specs.Outside.{outside_of};
 ghost use Rattle.pc_driver.specs.Streams.{Streamed, streamed};
 ghost use Rattle.pc_object.specs.ObjectText.{IsObject, object_of};
 ghost use Rattle.pc_pass.specs.Pass.{Chain, EachRose};
 ghost use Rattle.pc_report.specs.Report.{pass_of, report_lines};
+ghost use Rattle.pc_source.specs.Files.{HasSource};
 ghost use Rattle.pc_tool.specs.Scheduled.{IsScheduledAs};
 ghost use Rattle.pc_tool.specs.models.Compiling.{EndsWith, ReportEnds, WriteEnds, reported};
+ghost use Rattle.pc_tool.specs.models.Translating.{HasProgram};
 ghost use Rattle.pc_word.specs.Ranges.{AreLimits, IsExtent};
 ghost use Rattle.pc_word.specs.SourceLimits.{most_source};
 
-use crate::refusal::Refusal;
-use crate::source::read_source;
 use crate::status::Status;
 use crate::translation::{Translation, translate};
+use pc_check::Checked;
 use pc_command::{CommandError, CompileCommand, compile_command};
-use pc_compile::Compiled;
+use pc_compile::{CompileError, Compiled};
 use pc_driver::tell;
 use pc_outside::{Shelf, ShelfError, Sink, send};
 use pc_pass::Pass;
-use pc_report::{PassFact, ReportError, ReportFacts, Speaker, ToolFault, report_text};
+use pc_report::{PassFact, ReportError, ReportFacts, SourceFault, Speaker, ToolFault, report_text};
+use pc_source::{Refusal, SourceError, read_program, read_source};
 use std::alloc::{AllocError, Global};
 
 /// Compiles as the words say, and tells what is due then; where nothing is, it hands out what was compiled. An
@@ -99,7 +101,15 @@ fn compile_source<'a, P: Pass, H: Shelf, O: Sink>(
 {
     match read_source(alloc, command.source, shelf) {
         Ok(text) => compile_text(alloc, text.as_slice(), command, passes, shelf, out),
-        Err(fault) => Err(fault),
+        Err(SourceError::Unread { name }) => Err(ToolFault::ReadFile {
+            who: Speaker::Pcc,
+            name,
+        }),
+        Err(SourceError::TooLong) => Err(ToolFault::Source {
+            who: Speaker::Pcc,
+            fault: SourceFault::TooLong,
+        }),
+        Err(SourceError::Memory) => Err(ToolFault::NoMemory { who: Speaker::Pcc }),
     }
 }
 
@@ -122,7 +132,35 @@ fn compile_text<'a, P: Pass, H: Shelf, O: Sink>(
     ensures named { map P.label passes.new.items ≡ map P.label passes.old.items }
     ensures ran { OnOk result (EachRose (map P.runs passes.old.items) (map P.runs passes.new.items)) }
 {
-    match translate(alloc, text, passes, command.limits, command.extent) {
+    match read_program(alloc, text) {
+        Ok(checked) => compile_program(alloc, &checked, command, passes, shelf, out),
+        Err(Refusal::Source { fault }) => Err(ToolFault::Source {
+            who: Speaker::Pcc,
+            fault,
+        }),
+        Err(Refusal::Memory) => Err(ToolFault::NoMemory { who: Speaker::Pcc }),
+    }
+}
+
+/// Compiles the source's program.
+#[tactic(auto, using(crate::proofs::CompilerEndings::compiler_endings))]
+fn compile_program<'a, P: Pass, H: Shelf, O: Sink>(
+    alloc: Global,
+    checked: &Checked,
+    command: CompileCommand<'a>,
+    passes: &mut Vec<P>,
+    shelf: &mut H,
+    out: &mut O,
+) -> Result<Compiled, ToolFault<'a>>
+    requires limits { AreLimits command.limits }
+    requires extent { IsExtent command.extent }
+    requires source { HasProgram (H.state shelf.old).held (source_place command.source) (resolved_of checked.now) }
+    ensures ends { EndsWith (Chain P.does P.changed passes.old.items passes.new.items) (counts_of P.label P.changed passes.new.items)
+        (H.state shelf.old) (H.state shelf.new) (streamed (O.taken out.old) (O.faults out.old)) (streamed (O.taken out.new) (O.faults out.new)) (Some (compile_request command.entry)) result }
+    ensures named { map P.label passes.new.items ≡ map P.label passes.old.items }
+    ensures ran { OnOk result (EachRose (map P.runs passes.old.items) (map P.runs passes.new.items)) }
+{
+    match translate(alloc, checked, passes, command.limits, command.extent) {
         Ok(Translation { compiled, bytes }) => {
             let (bytes, passes) = (bytes.as_slice(), passes.as_slice());
             match write_object(alloc, &compiled, bytes, command, passes, shelf, out) {
@@ -130,11 +168,11 @@ fn compile_text<'a, P: Pass, H: Shelf, O: Sink>(
                 Some(fault) => Err(fault),
             }
         }
-        Err(Refusal::Source { fault }) => Err(ToolFault::Source {
+        Err(CompileError::TooLarge { nodes }) => Err(ToolFault::Source {
             who: Speaker::Pcc,
-            fault,
+            fault: SourceFault::TooLarge { number: nodes },
         }),
-        Err(Refusal::Memory) => Err(ToolFault::NoMemory { who: Speaker::Pcc }),
+        Err(CompileError::Memory) => Err(ToolFault::NoMemory { who: Speaker::Pcc }),
     }
 }
 

@@ -5,8 +5,6 @@ mod compile;
 mod host;
 mod laws;
 mod program;
-mod refusal;
-mod source;
 mod status;
 mod translation;
 

@@ -7,6 +7,8 @@ mod bench;
 #[cfg(test)]
 mod compiler;
 #[cfg(test)]
+mod cutting;
+#[cfg(test)]
 mod failures;
 #[cfg(test)]
 mod functions;

@@ -4,39 +4,17 @@ use Rattle.std.specs.Borrow.{Bor}
 use Rattle.std.specs.Io.KnownBytes.{Appends}
 use Rattle.pc_word.specs.Count.{Rose}
 use Rattle.pc_flow.specs.FlowGraph.{FlowGraph}
-use Rattle.pc_outside.specs.Shelf.{Files, Shelved, ReadFaultOf, WriteFaultOf, HoldsFile, OnlyFileDiffers}
+use Rattle.pc_outside.specs.Shelf.{Shelved, WriteFaultOf, HoldsFile, OnlyFileDiffers}
 use Rattle.pc_outside.specs.Stream.{AppendsPart}
 use Rattle.pc_compile.specs.declared.program.Compiled.{Compiled}
-use Rattle.pc_command.specs.Requests.{CompileRequest, SourcePlace, OfFile}
+use Rattle.pc_command.specs.Requests.{CompileRequest}
 use Rattle.pc_report.specs.declared.fault.Speaker.TheVariants.{Pcc}
-use Rattle.pc_report.specs.declared.fault.SourceFault.TheVariants.{TooLong}
 use Rattle.pc_report.specs.declared.fault.ToolFault.{ToolFault}
 use Rattle.pc_report.specs.declared.fault.ToolFault.TheVariants as fault
 use Rattle.pc_report.specs.Report.{PassCount, Report}
 use Rattle.pc_tool.specs.Compiler.{CompilerEnds}
-use Rattle.pc_tool.specs.Files.{HasSource, HoldsSource}
 use Rattle.pc_driver.specs.Streams.{Streamed}
 use Rattle.pc_tool.specs.Scheduled.{IsScheduledAs}
-use Rattle.pc_tool.specs.SourceFaults.{HasFault}
-use Rattle.pc_tool.specs.declared.translation.Translation.{Translation}
-use Rattle.pc_tool.specs.models.Translating.{IsTranslation}
-
--- why a source's text was not read
-pub data FailsToRead (source : SourcePlace) (old new : Shelved) : (fault : ToolFault) → Type 0 where
-  Not_read : {name : Bor (List ℕ)} →
-      source ≡ OfFile name.now →
-      ReadFaultOf old new name.now →
-      FailsToRead source old new (fault.ReadFile Pcc name)
-  Too_long :
-      HoldsSource old.held source (λ text. HasFault text TooLong) →
-      FailsToRead source old new (fault.Source Pcc TooLong)
-  No_memory : FailsToRead source old new (fault.NoMemory Pcc)
-
--- the source that is asked for has a text of which this is the translation
-pub record HasTranslation (Passed : FlowGraph → FlowGraph → Type 0) (held : Option Files) (request : CompileRequest) (it : Translation) : Type 0 where
-  pub text : List ℕ
-  pub in_source : HasSource held request.source text
-  pub is : IsTranslation Passed request.limits request.extent text it
 
 -- what is reported of what was compiled, and of the passes
 abbrev pub reported : Compiled → List PassCount → Report

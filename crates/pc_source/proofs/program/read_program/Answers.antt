@@ -1,6 +1,6 @@
 -- The tokens are few enough to be parsed, their symbols are small enough for calls to be inlined, and what refuses a step is a fault of
 -- the text.
-use Rattle.std.proofs.Common.{◌≡◌, sym, subst, ◌∙◌, ap}
+use Rattle.std.proofs.Common.{sym, subst}
 use Rattle.std.proofs.lemmas.Result.{err_from_is_err_and}
 use Rattle.pc_lexer.proofs.Numbering.{numbers_names}
 use Rattle.pc_parser.proofs.NamesInOrder.{names-below}
@@ -12,10 +12,10 @@ use Rattle.pc_check.specs.Checks.{check_cause, resolved_of}
 use Rattle.pc_check.specs.Faults.{faults}
 use Rattle.pc_check.specs.Resolution.{resolved}
 use Rattle.pc_syntax.specs.Source.{SourceProgram}
-use Rattle.pc_tool.specs.Source.{IsRead}
-use Rattle.pc_tool.proofs.FrontEnd.{is_checked, refused, uncalled, uncut, unparsed, written}
-use Rattle.pc_tool.proofs.Sources.{few_tokens}
-use Rattle.pc_tool.proofs.translation.read_program.Goals as goal
+use Rattle.pc_source.specs.Source.{IsRead}
+use Rattle.pc_source.proofs.FrontEnd.{is_checked, refused, uncalled, uncut, unparsed, written}
+use Rattle.pc_source.proofs.Sources.{few_tokens}
+use Rattle.pc_source.proofs.program.read_program.Goals as goal
 
 pub returns-in_err-tokens : goal.returns-in_err-tokens
 returns-in_err-tokens c =

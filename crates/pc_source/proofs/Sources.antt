@@ -20,9 +20,9 @@ use Rattle.pc_check.specs.Sizes.{size}
 use Rattle.pc_report.specs.declared.fault.SourceFault.{SourceFault}
 use Rattle.pc_driver.proofs.Results.{ok_same}
 use Rattle.pc_calls.specs.Inlining.{inlined_unit, unit_refusals}
-use Rattle.pc_tool.specs.Source.{IsRead, IsNoSource}
+use Rattle.pc_source.specs.Source.{IsRead, IsNoSource}
 use Rattle.pc_calls.specs.Refusals.{Refusal}
-use Rattle.pc_tool.specs.SourceFaults.{HasFault, Long, Uncut, Unread, Nested, Uncallable, Faulty, Large}
+use Rattle.pc_source.specs.SourceFaults.{HasFault, Long, Uncut, Unread, Nested, Uncallable, Faulty, Large}
 
 -- ---- one unit
 

@@ -17,7 +17,7 @@ use Rattle.pc_report.specs.declared.fault.SourceFault.{SourceFault}
 use Rattle.pc_report.specs.declared.fault.SourceFault.TheVariants.{TooLong, BadByte, TooManyTokens, TooLarge, InlinedTooBig, InlinedTooHigh, AtLine}
 use Rattle.pc_report.specs.declared.fault.LineFault.TheVariants as at_line
 use Rattle.pc_calls.specs.Inlining.{inlined_unit, unit_refusals}
-use Rattle.pc_tool.specs.Source.{IsRead}
+use Rattle.pc_source.specs.Source.{IsRead}
 
 -- how a fault of the tokens is reported; want of memory is none
 abbrev pub told_of_lex : LexError → Option SourceFault

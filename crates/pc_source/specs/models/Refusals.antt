@@ -1,20 +1,17 @@
--- What the refusals of a step are to the compiler. Want of memory stays want of memory.
-use Rattle.std.specs.Prelude.{Option, Some, None}
+-- What the refusals of a step are to one that reads a text. Want of memory stays want of memory.
+use Rattle.std.specs.Prelude.{Option, Some, None, option_map}
 use Rattle.pc_lexer.specs.declared.error.LexError.{LexError}
 use Rattle.pc_parser.specs.declared.unit.ParseError.{ParseError}
 use Rattle.pc_parser.specs.declared.unit.ParseError.TheVariants as parse
 use Rattle.pc_check.specs.declared.error.CheckError.{CheckError}
-use Rattle.pc_compile.specs.declared.error.CompileError.{CompileError}
-use Rattle.pc_compile.specs.declared.error.CompileError.TheVariants as compile
 use Rattle.pc_report.specs.declared.fault.SourceFault.{SourceFault}
 use Rattle.pc_report.specs.declared.fault.SourceFault.TheVariants as source
 use Rattle.pc_report.specs.declared.fault.LineFault.TheVariants as at_line
-use Rattle.pc_tool.specs.declared.refusal.Refusal.{Refusal}
-use Rattle.pc_tool.specs.declared.refusal.Refusal.TheVariants as refusal
-use Rattle.std.specs.Prelude.{option_map}
+use Rattle.pc_source.specs.declared.refusal.Refusal.{Refusal}
+use Rattle.pc_source.specs.declared.refusal.Refusal.TheVariants as refusal
 use Rattle.pc_inline.specs.declared.error.InlineError.{InlineError}
 use Rattle.pc_inline.specs.Inlined.{inline_cause}
-use Rattle.pc_tool.specs.SourceFaults.{told_of_lex, told_of_call, told_of_check}
+use Rattle.pc_source.specs.SourceFaults.{told_of_lex, told_of_call, told_of_check}
 
 -- the refusal of a text with a fault, if it has one, and else want of memory
 abbrev pub refusal_of : Option SourceFault → Refusal
@@ -38,8 +35,3 @@ refusal_of_inline error = refusal_of (option_map told_of_call (inline_cause erro
 -- a refusal of the checker
 abbrev pub refusal_of_check : CheckError → Refusal
 refusal_of_check error = refusal_of (told_of_check error)
-
--- a refusal of the compiler of checked programs
-abbrev pub refusal_of_compile : CompileError → Refusal
-refusal_of_compile (compile.TooLarge nodes) = refusal.Source (source.TooLarge nodes)
-refusal_of_compile compile.Memory = refusal.Memory

@@ -1,21 +1,18 @@
-//! Why a text is not translated.
+//! Why a text has no program.
 ghost use Rattle.std.specs.Prelude.{◌≡◌};
-ghost use Rattle.pc_tool.specs.models.Refusals.{refusal_of_lex, refusal_of_parse, refusal_of_inline, refusal_of_check, refusal_of_compile};
-ghost use Rattle.pc_tool.specs.declared.refusal.Refusal.TheVariants.{Memory};
+ghost use Rattle.pc_source.specs.models.Refusals.{refusal_of_lex, refusal_of_parse, refusal_of_inline, refusal_of_check};
 
 use pc_check::CheckError;
-use pc_compile::CompileError;
 use pc_inline::InlineError;
 use pc_lexer::LexError;
 use pc_parser::ParseError;
 use pc_report::{LineFault, SourceFault};
-use pc_word::OutOfMemory;
-use std::alloc::AllocError;
 use thiserror::Error;
 
-/// Why a text is not translated.
+/// Why a text has no program.
 #[derive(Clone, Copy, Debug, PartialEq, Eq, Error)]
-pub(crate) enum Refusal {
+pub enum Refusal {
+    /// Memory ran out.
     #[error("out of memory")]
     Memory,
     /// The text has this fault.
@@ -102,36 +99,5 @@ impl From<CheckError> for Refusal {
             CheckError::TooDeep { line } => at_line(LineFault::ExpressionTooDeep, line),
             CheckError::Memory => Refusal::Memory,
         }
-    }
-}
-
-impl From<CompileError> for Refusal {
-    ghost from_gives = { λ error given. given ≡ refusal_of_compile error };
-
-    fn from(error: CompileError) -> Refusal {
-        match error {
-            CompileError::TooLarge { nodes } => Refusal::Source {
-                fault: SourceFault::TooLarge { number: nodes },
-            },
-            CompileError::Memory => Refusal::Memory,
-        }
-    }
-}
-
-impl From<OutOfMemory> for Refusal {
-    ghost from_gives = { λ _ given. given ≡ Memory };
-
-    fn from(error: OutOfMemory) -> Refusal {
-        match error {
-            OutOfMemory::Memory => Refusal::Memory,
-        }
-    }
-}
-
-impl From<AllocError> for Refusal {
-    ghost from_gives = { λ _ given. given ≡ Memory };
-
-    fn from(_error: AllocError) -> Refusal {
-        Refusal::Memory
     }
 }

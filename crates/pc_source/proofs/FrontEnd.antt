@@ -24,10 +24,10 @@ use Rattle.pc_check.specs.Checks.{check_cause}
 use Rattle.pc_check.specs.Faults.{faults}
 use Rattle.pc_check.specs.Resolution.{resolved}
 use Rattle.pc_check.proofs.ExactLaws.{refused-first}
-use Rattle.pc_tool.specs.Source.{IsRead}
-use Rattle.pc_tool.specs.SourceFaults.{Uncut, Unread, Nested, Uncallable, Faulty, told_of_call}
-use Rattle.pc_tool.specs.models.Refusals.{refusal_of, refusal_of_lex, refusal_of_parse, refusal_of_inline, refusal_of_check}
-use Rattle.pc_tool.specs.models.Translating.{IsChecked, RefusesText}
+use Rattle.pc_source.specs.Source.{IsRead}
+use Rattle.pc_source.specs.SourceFaults.{Uncut, Unread, Nested, Uncallable, Faulty, told_of_call}
+use Rattle.pc_source.specs.models.Refusals.{refusal_of, refusal_of_lex, refusal_of_parse, refusal_of_inline, refusal_of_check}
+use Rattle.pc_source.specs.Reading.{IsChecked, RefusesText}
 
 -- a text that is not cut into tokens
 pub uncut : (error : LexError) (text : List ℕ) → length text ≤ most_source → IsRefusal (lex_cause error) (lexed text) → RefusesText (refusal_of_lex error) text

@@ -2,14 +2,15 @@
 use Rattle.std.proofs.Common.{ap}
 use Rattle.pc_tool.specs.Compilation.{counts_of}
 use Rattle.pc_tool.proofs.CompilerEndings.{done_ends, due_ends}
-use Rattle.pc_tool.proofs.compile.compile_text.Goals as goal
+use Rattle.pc_tool.proofs.Translations.{translation_of}
+use Rattle.pc_tool.proofs.compile.compile_program.Goals as goal
 
 pub returns-in-None-clause-ends : goal.returns-in-None-clause-ends
 returns-in-None-clause-ends g c =
-    done_ends _ _ _ _ _ _ _ c.in-Ok.field-0 (record { text = c.args.text.now; in_source = c.requires.source; is = c.in-Ok.ensures.translation }) _ _ _
+    done_ends _ _ _ _ _ _ _ c.in-Ok.field-0 (translation_of _ _ _ _ _ c.requires.source c.in-Ok.ensures.translation) _ _ _
     c.as_slice-bytes.ensures.value (ap (counts_of g.P.Pass.label g.P.Pass.changed) c.as_slice-passes.ensures.value) c.in-None.is c.write_object.ensures
 
 pub returns-in-Ok-clause-ends : goal.returns-in-Ok-clause-ends
 returns-in-Ok-clause-ends g c =
-    due_ends _ _ _ _ _ _ _ c.in-Ok.field-0 (record { text = c.args.text.now; in_source = c.requires.source; is = c.in-Ok.ensures.translation }) _ _ _ c.in-Some.fault
+    due_ends _ _ _ _ _ _ _ c.in-Ok.field-0 (translation_of _ _ _ _ _ c.requires.source c.in-Ok.ensures.translation) _ _ _ c.in-Some.fault
     c.as_slice-bytes.ensures.value (ap (counts_of g.P.Pass.label g.P.Pass.changed) c.as_slice-passes.ensures.value) c.in-Some.is c.write_object.ensures

@@ -1,0 +1,3 @@
+pub mod models
+pub mod CutProgram
+pub mod Laws
