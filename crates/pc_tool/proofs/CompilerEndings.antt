@@ -1,5 +1,5 @@
 -- How the compiler ends, put together from what its steps leave.
-use Rattle.std.proofs.Common.{◌≡◌, ℕ, ◌<◌, ◌≤◌, ◌⊎◌, inl, inr, List, length, Bool, true, false, Option, Some, None, Result, Ok, Err, refl, sym, ◌∙◌, ap, subst, arith}
+use Rattle.std.proofs.Common.{◌≡◌, ℕ, ◌≤◌, ◌⊎◌, inl, inr, List, Bool, true, false, Option, Some, None, Result, Ok, Err, refl, sym, ◌∙◌, ap, subst, arith}
 use Rattle.std.proofs.lemmas.List.{length-map}
 use Rattle.std.specs.Prelude.{IsSome}
 use Rattle.std.specs.Borrow.{Bor}
@@ -110,14 +110,12 @@ pub unread_ends : (Passed : FlowGraph → FlowGraph → Type 0) (passes : List P
     → ReadKeeps old new → FailsToRead request.source old new (error.Unread name)
     → EndsWith Passed passes old new out out (Some request) (Err (fault.ReadFile Pcc name))
 unread_ends Passed passes request old new out name keeps (Not_read is failed) = With_fault (Unread is keeps failed refl)
-unread_ends Passed passes request old new out name keeps _ = absurd cc
 
 -- its text is too long
 pub long_ends : (Passed : FlowGraph → FlowGraph → Type 0) (passes : List PassCount) (request : CompileRequest) (old new : Shelved) (out : Streamed)
     → ReadKeeps old new → FailsToRead request.source old new error.TooLong
     → EndsWith Passed passes old new out out (Some request) (Err (fault.Source Pcc TooLong))
 long_ends Passed passes request old new out keeps (Too_long long) = With_fault (Refused keeps long refl)
-long_ends Passed passes request old new out keeps _ = absurd cc
 
 -- nothing was written, for want of memory
 pub lacking_ends : (Passed : FlowGraph → FlowGraph → Type 0) (passes : List PassCount) (given : Option CompileRequest) (old new : Shelved) (out : Streamed) → ReadKeeps old new
@@ -327,6 +325,5 @@ pub ruleset compiler_endings = (
   usage_ends,
   text_ends,
   has_program,
-  large_ends,
   ends_behind,
 )
