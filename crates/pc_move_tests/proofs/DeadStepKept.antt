@@ -1,5 +1,5 @@
 -- What the table of the tests keeps.
-use Rattle.std.proofs.Common.{◌≡◌, ℕ, zero, suc, ◌+◌, ◌≤◌, ◌<◌, length, ap, [], Some, None, refl, sym, ◌∙◌, subst, arith}
+use Rattle.std.proofs.Common.{◌≡◌, ℕ, zero, suc, ◌+◌, ◌≤◌, [], Some, None, refl, sym, ◌∙◌, subst, arith}
 use Rattle.std.specs.Prelude.{pos, Bool, true, false, not, ◌&&◌, nat_eq, slice_get}
 use Rattle.std.specs.List.{list_any}
 use Rattle.pc_table.specs.RegionRun.{arrive}

@@ -1,10 +1,12 @@
 //! What comes into the front of a window that is filled.
-ghost use Rattle.std.specs.Prelude.{◌≡◌, IfOk};
+ghost use Rattle.std.specs.Prelude.{◌≡◌, true, IfOk};
 ghost use Rattle.pc_table.specs.Table.{table_tree};
 ghost use Rattle.pc_table.specs.StoredTable.{table_of};
 ghost use Rattle.pc_word.specs.declared.item.Item.TheVariants.{Load, Store, Print};
 ghost use Rattle.pc_word.specs.declared.item.Operand.TheVariants.{Lit};
 ghost use Rattle.pc_word.specs.Ranges.{AreLimits};
+ghost use Rattle.pc_window.specs.Steps.{IsProper};
+ghost use Rattle.pc_window.specs.StoredWindow.{window_in, InNodes, IsJustOpened};
 ghost use Rattle.pc_move_tests.specs.Conflicts.{tested_tree, conflicts_tree, conflicts_table};
 
 use crate::tables::{asks, does};
@@ -97,8 +99,20 @@ fn table(alloc: Global) -> Result<RegionTable, AllocError>
     })
 }
 
+/// The window of that region.
+#[tactic(auto, using(pc_table::proofs::StoredRegions::some_region))]
+pub(crate) fn opened_conflicts(alloc: Global, limits: Limits) -> Result<Window, WindowError>
+    requires { AreLimits limits }
+    ensures proper { IfOk result (λ window. IsProper (window_in window)) }
+    ensures small { IfOk result (λ window. IsJustOpened window) }
+    ensures nodes { IfOk result (λ window. InNodes true window.tree) }
+{
+    let table = table(alloc)?;
+    Window::of_region(alloc, &table, 0, limits)
+}
+
 /// Lists the origins of what stands in a front, in preorder.
-fn list_origins(tree: &WindowTree, listed: &mut Vec<u32>) -> Result<(), AllocError> {
+pub(crate) fn list_origins(tree: &WindowTree, listed: &mut Vec<u32>) -> Result<(), AllocError> {
     match tree {
         WindowTree::Step { origin, rest, .. } => {
             listed.push(*origin)?;
@@ -127,12 +141,11 @@ fn place_of(found: Option<ReadyNode>) -> Option<u32> {
 }
 
 /// The place of what comes first, and the origins of what stands in the front of the window filled.
-#[tactic(auto, using(pc_table::proofs::StoredRegions::some_region, pc_fill::proofs::Opened::opened_windows))]
+#[tactic(auto, using(pc_fill::proofs::Opened::opened_windows))]
 fn filled(alloc: Global, limits: Limits) -> Result<(Option<u32>, Vec<u32>), WindowError>
     requires { AreLimits limits }
 {
-    let table = table(alloc)?;
-    let window = Window::of_region(alloc, &table, 0, limits)?;
+    let window = opened_conflicts(alloc, limits)?;
     let place = place_of(first_ready(&window));
     let window = fill(alloc, window)?;
     let mut listed = Vec::new(alloc);

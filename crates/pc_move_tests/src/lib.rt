@@ -1,6 +1,9 @@
-//! Tests of what moves the items and tests of a window: filling, and the single moves.
+//! Tests of what moves the items and tests of a window: filling, what is brought by its place, and the
+//! single moves.
 #![tactic(auto)]
 
+#[cfg(test)]
+mod bring;
 #[cfg(test)]
 mod fill;
 #[cfg(test)]

@@ -1,10 +1,10 @@
 //! What is not used is deleted, and equal items become one.
-ghost use Rattle.std.specs.Prelude.{◌≡◌, ◌<◌, ◌^◌, IfOk};
+ghost use Rattle.std.specs.Prelude.{◌≡◌, ◌<◌, ◌^◌, true, IfOk};
 ghost use Rattle.pc_table.specs.Table.{table_tree};
 ghost use Rattle.pc_table.specs.StoredTable.{table_of};
 ghost use Rattle.pc_window.specs.Tree.{tree_size};
 ghost use Rattle.pc_window.specs.Steps.{IsProper};
-ghost use Rattle.pc_window.specs.StoredWindow.{tree_in, window_in, IsJustOpened};
+ghost use Rattle.pc_window.specs.StoredWindow.{tree_in, window_in, InNodes, IsJustOpened};
 ghost use Rattle.pc_move_tests.specs.DeadStep.{dead_step_table};
 ghost use Rattle.pc_move_tests.specs.EqualSums.{sum_tree, equal_sums_table};
 
@@ -139,14 +139,14 @@ fn sum_and_print(alloc: Global, sum_node: u32, print_node: u32) -> Result<Region
 }
 
 /// `if (x) { a = y + 1; print(a); } else { a = y + 1; print(a); }`, as one region, where x is
-/// variable 0.
+/// variable 0. The sum on the yes side is node 1, and that on the no side this node.
 #[tactic(auto, using(crate::proofs::EqualSumsKept::equal_sums))]
-fn equal_sums(alloc: Global) -> Result<RegionTable, AllocError>
-    ensures { IfOk result (λ table. table_of table ≡ equal_sums_table) }
+pub(crate) fn equal_sums(alloc: Global, other: u32) -> Result<RegionTable, AllocError>
+    ensures { IfOk result (λ table. table_of table ≡ equal_sums_table other) }
 {
     let yes = sum_and_print(alloc, 1, 2)?;
     let yes = Box::new(alloc, yes)?;
-    let no = sum_and_print(alloc, 3, 4)?;
+    let no = sum_and_print(alloc, other, 4)?;
     let no = Box::new(alloc, no)?;
     let mut live = VarList::new(alloc);
     live.push(0)?;
@@ -173,9 +173,10 @@ fn equal_sums(alloc: Global) -> Result<RegionTable, AllocError>
 
 /// Its window.
 #[tactic(auto, using(pc_table::proofs::StoredRegions::some_region))]
-fn opened_sums(alloc: Global, table: &RegionTable) -> Result<Window, WindowError>
+pub(crate) fn opened_sums(alloc: Global, table: &RegionTable) -> Result<Window, WindowError>
     ensures proper { IfOk result (λ window. IsProper (window_in window)) }
     ensures small { IfOk result (λ window. IsJustOpened window) }
+    ensures nodes { IfOk result (λ window. InNodes true window.tree) }
 {
     let limits = Limits {
         ops: 1,
@@ -244,7 +245,7 @@ fn unifies_sums(alloc: Global, window: Window) -> bool
 
 #[test]
 fn equal_items_become_one(rt: HostRuntime) -> Result<(), Fail> {
-    let table = equal_sums(rt.alloc())?;
+    let table = equal_sums(rt.alloc(), 3)?;
     let is_so = match opened_sums(rt.alloc(), &table) {
         Ok(window) => unifies_sums(rt.alloc(), window),
         Err(_) => false,
