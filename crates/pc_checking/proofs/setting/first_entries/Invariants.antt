@@ -1,0 +1,14 @@
+use Rattle.std.proofs.Common.{◌≡◌, ◌≤◌, ℕ, length, drop}
+use Rattle.pc_checking.specs.models.Rows.{TellFirst}
+use Rattle.pc_checking.proofs.setting.first_entries.Given as goal
+
+-- the entries that follow are told
+abbrev pub invariant-loop-number : goal.invariant-while
+invariant-loop-number l = record {
+  within : l.number ≤ length l.entries;
+  as_many : length l.firsts.items ≡ l.rows;
+  told : TellFirst (drop l.number l.entries) l.number l.firsts.items;
+}
+
+abbrev pub decreases-loop-number : goal.decreases-while
+decreases-loop-number l = l.number
