@@ -87,7 +87,7 @@ row_found facts row stored front found same is =
 
 module _ (table : Table) (steps : List Step) (arrived : FirstArrival) (row : CodeRow) (copy : StoredWindow) (same : window_in copy ≡ arrived.window) where
   pub arranged_not : ((v : Window) → Arranges table steps (window_in copy) v → ⊥) → ArrangesFor table steps arrived row (Err IllegalStep)
-  arranged_not no = is_illegal (λ v arranges. no v (subst (λ (u : Window). Arranges table steps u v) (sym same) arranges))
+  arranged_not never = is_illegal (λ v arranges. never v (subst (λ (u : Window). Arranges table steps u v) (sym same) arranges))
 
   module _ (later : StoredWindow) (stored : RowTree (Unit {0})) (front_is : row_in (λ leaf. leaf) stored ≡ front_row (λ rest. tt) (front_in later.tree))
       (arranges : Arranges table steps (window_in copy) (window_in later)) where
@@ -101,4 +101,4 @@ module _ (table : Table) (steps : List Step) (arrived : FirstArrival) (row : Cod
         → ArrangesFor table steps arrived row (Ok (let it : stored_arranged.Arranged = record { window = later; helds = helds } in it))
     arranged_so helds found it = is_arranged arranges_it (row_found arrived.facts row stored (front_in later.tree) (Some (helds_of helds)) front_is found) it
 
-pub ruleset arranging = (can_arrange, arranged_not, arranged_other, arranged_so)
+pub ruleset arranging = (arranged_not, arranged_other, arranged_so)

@@ -1,9 +1,9 @@
 -- Windows that arrive at entries, in memory.
-use Rattle.std.proofs.Common.{◌≡◌, ◌≢◌, ℕ, zero, suc, ◌<◌, ◌≤◌, ◌^◌, ◌⊎◌, inl, inr, Bool, true, List, [], ◌∷◌, length, map, take, Option, Some, None, refl, sym, ◌∙◌, ap, subst, arith}
+use Rattle.std.proofs.Common.{◌≡◌, ◌≢◌, ℕ, zero, suc, ◌<◌, ◌≤◌, ◌^◌, ◌⊎◌, inl, inr, Bool, true, List, [], ◌∷◌, length, map, get_or, Option, Some, None, refl, sym, ◌∙◌, ap, subst, arith}
 use Rattle.std.specs.Prelude.{IfSome, slice_get, slice_set}
 use Rattle.std.proofs.lemmas.Bool.Decides.{eqb_tells}
 use Rattle.std.proofs.lemmas.List.{length-map, length-set, map-set, set-set}
-use Rattle.std.proofs.lemmas.Option.{slice_get_within}
+use Rattle.std.proofs.lemmas.Option.{slice_get-get_or}
 use Rattle.pc_word.proofs.Places.{map_at, set_there, set_elsewhere}
 use Rattle.pc_cert.specs.declared.certificate.Entry.{Entry}
 use Rattle.pc_table.specs.Table.{Table}
@@ -62,8 +62,6 @@ renumbered_begun table w copy later begun same tree is nodes proper fewer_names 
           )
           );
     }
-
-pub ruleset renumbering = (copied_left, renumbered_begun)
 
 -- ---- what an entry stands for
 
@@ -125,17 +123,35 @@ module _ (s : stored_setting.Setting) (arrivals : List (Option stored_arrival.Fi
       some_one x y e = cc
 
   -- what has arrived is taken, and stands there again
-  abbrev put_back : stored_arrival.FirstArrival → List (Option stored_arrival.FirstArrival)
-  put_back it = slice_set (slice_set arrivals number None) number (Some it)
-
-  pub put_back_kept : (it : stored_arrival.FirstArrival) → IsBegun (table_of s.table.now) it.window → AreKept s (put_back it)
-  put_back_kept it begun = subst (AreKept s) (sym (set-set arrivals number None (Some it))) (put_kept (Some it) begun)
-
-  pub put_back_in : (it : stored_arrival.FirstArrival) → arrivals_in (put_back it) ≡ slice_set (arrivals_in arrivals) number (Some (arrival_in it))
-  put_back_in it =
-      ap arrivals_in (set-set arrivals number None (Some it)) ∙ map-set some_arrival_in arrivals number (Some it)
+  pub put_back_kept : (gone : Option stored_arrival.FirstArrival) (it : stored_arrival.FirstArrival) → IsBegun (table_of s.table.now) it.window
+      → AreKept s (slice_set (slice_set arrivals number gone) number (Some it))
+  put_back_kept gone it begun = subst (AreKept s) (sym (set-set arrivals number gone (Some it))) (put_kept (Some it) begun)
 
   -- an entry may begin with what has arrived there
-  pub was_begun : (before d : Option stored_arrival.FirstArrival) → slice_get arrivals number ≡ Some before → IfSome before (λ it. IsBegun (table_of s.table.now) it.window)
-  was_begun None d is = tt
-  was_begun (Some it) d is = kept.begun number it is
+  pub was_begun : (before : Option stored_arrival.FirstArrival) → slice_get arrivals number ≡ Some before → IfSome before (λ it. IsBegun (table_of s.table.now) it.window)
+  was_begun None is = tt
+  was_begun (Some it) is = kept.begun number it is
+
+pub put_back_in : (arrivals : List (Option stored_arrival.FirstArrival)) (number : ℕ) (gone : Option stored_arrival.FirstArrival) (it : stored_arrival.FirstArrival)
+    → arrivals_in (slice_set (slice_set arrivals number gone) number (Some it)) ≡ slice_set (arrivals_in arrivals) number (Some (arrival_in it))
+put_back_in arrivals number gone it =
+    ap arrivals_in (set-set arrivals number gone (Some it)) ∙ map-set some_arrival_in arrivals number (Some it)
+
+-- what stood where something is taken
+pub was_at : {X : Type 0} (xs : List X) (i : ℕ) (default taken : X) → i < length xs → taken ≡ get_or xs i default → slice_get xs i ≡ Some taken
+was_at xs i default taken within is = slice_get-get_or xs i default within ∙ ap Some (sym is)
+
+-- the same as what has arrived
+pub was_in : (arrivals : List (Option stored_arrival.FirstArrival)) (number : ℕ) (before : Option stored_arrival.FirstArrival) → slice_get arrivals number ≡ Some before
+    → slice_get (arrivals_in arrivals) number ≡ Some (some_arrival_in before)
+was_in arrivals number before is = map_at some_arrival_in arrivals number before is
+
+-- what has arrived at an entry that is read
+pub was_so : (arrivals : List (Option stored_arrival.FirstArrival)) (number : ℕ) (default is : Option stored_arrival.FirstArrival) → number < length arrivals
+    → get_or arrivals number default ≡ is → slice_get (arrivals_in arrivals) number ≡ Some (some_arrival_in is)
+was_so arrivals number default is within same = was_in arrivals number is (was_at arrivals number default is within (sym same))
+
+-- what stands at an entry is a window with which it may begin
+pub begun_first : (table : Table) (first : Option stored_arrival.FirstArrival) (arrived : stored_arrival.FirstArrival) → first ≡ Some arrived
+    → IfSome first (λ it. IsBegun table it.window) → IsBegun table arrived.window
+begun_first table first arrived is begun = subst (λ (o : Option stored_arrival.FirstArrival). IfSome o (λ it. IsBegun table it.window)) is begun

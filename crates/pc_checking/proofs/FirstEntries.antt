@@ -33,13 +33,15 @@ told_before entry entries n firsts told row within = elim (eqb_tells entry.row r
     below : row < length firsts
     below = let many = length-set firsts entry.row (Some n) in omega (arith, many, within)
 
-pub told_more : (entries : List Entry) (n row : ℕ) (entry : Entry) (firsts : List (Option ℕ)) → n < length entries → entry ≡ get_or entries n entry → row ≡ entry.row
-    → TellFirst (drop (n + 1) entries) (n + 1) firsts → TellFirst (drop n entries) n (slice_set firsts row (Some n))
-told_more entries n row entry firsts within is row_is told =
+pub told_more : (entries : List Entry) (n next : ℕ) (default : Entry) (firsts new : List (Option ℕ)) → n < length entries → n + 1 ≡ next
+    → new ≡ slice_set firsts (get_or entries n default).row (Some n) → TellFirst (drop next entries) next firsts → TellFirst (drop n entries) n new
+told_more entries n next default firsts new within one is told =
+    let entry = get_or entries n default in
     let rest : drop n entries ≡ entry ∷ drop (n + 1) entries =
-    drop-cons entries n entry within ∙ ap (λ (e : Entry). e ∷ drop (suc n) entries) (sym is) ∙ ap (λ (k : ℕ). entry ∷ drop k entries) (let e : suc n ≡ n + 1 = omega arith in e) in
-    subst (λ (list : List Entry). TellFirst list n (slice_set firsts row (Some n))) (sym rest)
-    (subst (λ (r : ℕ). TellFirst (entry ∷ drop (n + 1) entries) n (slice_set firsts r (Some n))) (sym row_is) (told_before entry (drop (n + 1) entries) n firsts told))
+    drop-cons entries n default within ∙ ap (λ (k : ℕ). entry ∷ drop k entries) (let e : suc n ≡ n + 1 = omega arith in e) in
+    let before = subst (λ (k : ℕ). TellFirst (drop k entries) k firsts) (sym one) told in
+    subst (λ (list : List Entry). TellFirst list n new) (sym rest)
+    (subst (λ (list : List (Option ℕ)). TellFirst (entry ∷ drop (n + 1) entries) n list) (sym is) (told_before entry (drop (n + 1) entries) n firsts before))
 
 -- where there is no place nothing is put
 pub put_nowhere : {X : Type 0} (xs : List X) (i : ℕ) (x : X) → length xs ≤ i → xs ≡ slice_set xs i x
@@ -49,7 +51,10 @@ put_nowhere (y ∷ xs) (suc i) x le = ap (λ list. y ∷ list) (put_nowhere xs i
 
 -- ---- no entry, and all
 
-none_put : (rows row : ℕ) → row < length (replicate rows None) → slice_get (replicate rows None) row ≡ Some None
+abbrev nothing : ℕ → List (Option ℕ)
+nothing rows = replicate rows None
+
+none_put : (rows row : ℕ) → row < length (nothing rows) → slice_get (nothing rows) row ≡ Some None
 none_put zero row h = absurd (omega (arith, h))
 none_put (suc rows) zero h = refl
 none_put (suc rows) (suc row) h = none_put rows row (omega (arith, h))
@@ -58,7 +63,7 @@ drop_all : (entries : List Entry) → drop (length entries) entries ≡ []
 drop_all [] = refl
 drop_all (entry ∷ entries) = drop_all entries
 
-pub told_none : (entries : List Entry) (rows : ℕ) (firsts : List (Option ℕ)) → firsts ≡ replicate rows None → TellFirst (drop (length entries) entries) (length entries) firsts
+pub told_none : (entries : List Entry) (rows : ℕ) (firsts : List (Option ℕ)) → firsts ≡ nothing rows → TellFirst (drop (length entries) entries) (length entries) firsts
 told_none entries rows firsts is row within =
     ap (λ list. slice_get list row) is ∙ none_put rows row (subst (λ list. row < length list) is within)
     ∙ ap (λ (list : List Entry). Some (numbered_from (length entries) (entry_number list row))) (sym (drop_all entries))
@@ -72,8 +77,6 @@ told_all entries n firsts none told row within =
     let is : n ≡ 0 = omega (arith, none) in
     (subst (λ (k : ℕ). TellFirst (drop k entries) k firsts) is told) row within ∙ ap (λ (o : Option ℕ). Some o) (from_zero (entry_number entries row))
 
-pub ruleset telling = (told_more, told_none, told_all)
-
 -- ---- the entry of a row
 
 within_more : (found : Option ℕ) (number most : ℕ) → ((k : ℕ) → found ≡ Some k → k < most) → next_number found ≡ Some number → number < suc most
@@ -82,14 +85,12 @@ within_more (Some k) number most within is = let e : suc k ≡ number = cc in le
 
 pub number_within : (entries : List Entry) (row number : ℕ) → entry_number entries row ≡ Some number → number < length entries
 number_within [] row number is = absurd (cc)
-number_within (entry ∷ entries) row number is = choose (nat_eq entry.row row) is
+number_within (entry ∷ entries) row number is = choose (nat_eq entry.row row) is (λ k e. number_within entries row k e)
   where
-    more : (k : ℕ) → entry_number entries row ≡ Some k → k < length entries
-    more k e = number_within entries row k e
-
-    choose : (b : Bool) → (if b then Some 0 else next_number (entry_number entries row)) ≡ Some number → number < suc (length entries)
-    choose true e = let zero_is : 0 ≡ number = cc in omega (arith, zero_is)
-    choose false e = within_more (entry_number entries row) number (length entries) more e
+    choose : (b : Bool) → (if b then Some 0 else next_number (entry_number entries row)) ≡ Some number
+        → ((k : ℕ) → entry_number entries row ≡ Some k → k < length entries) → number < suc (length entries)
+    choose true e more = let zero_is : 0 ≡ number = cc in omega (arith, zero_is)
+    choose false e more = within_more (entry_number entries row) number (length entries) more e
 
 -- what stands at a row of a list that tells it
 pub number_is : (entries : List Entry) (firsts : List (Option ℕ)) (row : ℕ) → AreFirst entries firsts → row < length firsts

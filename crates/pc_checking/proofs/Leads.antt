@@ -1,7 +1,11 @@
 -- Where what is left leads, in memory.
 use Rattle.std.proofs.Common.{◌≡◌, ◌↔◌, ℕ, ◌<◌, Bool, true, false, List, length, get_or, Option, Some, None, Result, Ok, Err, refl, sym, ◌∙◌, ap, subst}
 use Rattle.std.specs.Prelude.{IfOk, slice_get, slice_set}
+use Rattle.pc_word.specs.declared.item.Limits.{Limits}
+use Rattle.pc_table.specs.Table.{Table}
 use Rattle.pc_cert.specs.declared.certificate.Entry.{Entry}
+use Rattle.pc_settling.specs.declared.remaining.Begun as stored_begun
+use Rattle.pc_settling.specs.Stored.{begun_in, some_begun_in}
 use Rattle.pc_settling.specs.Remaining.{Remaining}
 use Rattle.pc_settling.specs.Begun.{Begun, Begins, BeginsWith}
 use Rattle.pc_settling.specs.Arrives.{Arrives}
@@ -17,10 +21,10 @@ use Rattle.pc_checking.specs.models.Going.{Meets, arrives_not, stands_still, goe
 module _ (departure : Option Departure) (begun : Begun) (entry : Entry) (arrived : FirstArrival) (found : Bool)
     (tells : (found ≡ true) ↔ Arrives begun.window begun.facts arrived.window arrived.facts) where
   pub met_nothing : found ≡ false → Meets departure begun entry arrived (Err NoArrival)
-  met_nothing no = arrives_not (λ a. absurd (let e : true ≡ false = sym (tells.1 a) ∙ no in cc))
+  met_nothing none = arrives_not (λ a. absurd (let e : true ≡ false = sym (tells.1 a) ∙ none in cc))
 
   pub met_still : (goes : Bool) → found ≡ true → goes ≡ has_progress departure begun entry → goes ≡ false → Meets departure begun entry arrived (Err NoProgress)
-  met_still goes there is no = stands_still (tells.0 there) (sym is ∙ no)
+  met_still goes there is none = stands_still (tells.0 there) (sym is ∙ none)
 
   pub met_on : (goes : Bool) (done : Unit {0}) → found ≡ true → goes ≡ has_progress departure begun entry → goes ≡ true → Meets departure begun entry arrived (Ok done)
   met_on goes done there is on = goes_on (tells.0 there) (sym is ∙ on)
@@ -58,8 +62,8 @@ module _ (s : Setting) (departure : Option Departure) (begun : Begun) (number : 
     by_met : (later : Arrivals) (met : Result (Unit {0}) LeafFlaw) → later ≡ slice_set arrivals number (Some arrived) → Meets departure begun here arrived met
         → (row : ℕ) (left : Remaining) → IsEntryOf s.entries row number here → BeginsWith s.table s.code.limits here.opening left begun
         → Leads s departure left arrivals row (outcome_of later met)
-    by_met later met is (arrives_not no) row left of_row begins = does_not_arrive (reaches row left of_row begins) no
-    by_met later met is (stands_still arrives no) row left of_row begins = has_none (reaches row left of_row begins) arrives no
+    by_met later met is (arrives_not never) row left of_row begins = does_not_arrive (reaches row left of_row begins) never
+    by_met later met is (stands_still arrives none) row left of_row begins = has_none (reaches row left of_row begins) arrives none
     by_met later met is (goes_on arrives on) row left of_row begins =
         subst (λ (a : Arrivals). Leads s departure left arrivals row (Ok a)) (sym is) (leads_to (reaches row left of_row begins) arrives on)
 
@@ -68,6 +72,18 @@ module _ (s : Setting) (departure : Option Departure) (begun : Begun) (number : 
     led_on later met is meets = for_here (outcome_of later met) (λ row left of_row begins. by_met later met is meets row left of_row begins)
 
 -- ---- to the entry of a row
+
+-- what it begins with, in memory, if it does
+pub begins_not : (table : Table) (limits : Limits) (entry read : Entry) (left : Remaining) (begun : Option stored_begun.Begun) → entry ≡ read → begun ≡ None
+    → Begins table limits read.opening left (some_begun_in begun) → Begins table limits entry.opening left None
+begins_not table limits entry read left begun same is begins =
+    subst (λ (e : Entry). Begins table limits e.opening left None) (sym same) (subst (λ (o : Option stored_begun.Begun). Begins table limits read.opening left (some_begun_in o)) is begins)
+
+pub begins_so : (table : Table) (limits : Limits) (entry read : Entry) (left : Remaining) (found : Option stored_begun.Begun) (begun : stored_begun.Begun) → entry ≡ read
+    → found ≡ Some begun → Begins table limits read.opening left (some_begun_in found) → BeginsWith table limits entry.opening left (begun_in begun)
+begins_so table limits entry read left found begun same is begins =
+    subst (λ (e : Entry). BeginsWith table limits e.opening left (begun_in begun)) (sym same)
+    (subst (λ (o : Option stored_begun.Begun). Begins table limits read.opening left (some_begun_in o)) is begins)
 
 module _ (s : Setting) (departure : Option Departure) (left : Remaining) (arrivals : Arrivals) (row : ℕ) where
   pub lead_nowhere : None ≡ entry_number s.entries row → Leads s departure left arrivals row (Err NoEntry)

@@ -1,12 +1,15 @@
 -- What is left at the leaves of a row, in memory.
-use Rattle.std.proofs.Common.{◌≡◌, ◌↔◌, ◌⊎◌, inl, inr, ℕ, zero, suc, ◌+◌, ◌<◌, ◌≤◌, ◌^◌, Bool, true, false, List, [], ◌∷◌, ◌++◌, length, map, drop, Option, Some, None, Result, Ok, Err, refl, sym, ◌∙◌, ap, subst, arith, length-append, drop_of_length-le}
-use Rattle.std.specs.Prelude.{IfOk, MatchResult, Contains, slice_get}
+use Rattle.std.proofs.Common.{◌≡◌, ◌↔◌, ◌⊎◌, inl, inr, ℕ, zero, suc, ◌+◌, ◌<◌, ◌≤◌, ◌^◌, Bool, true, false, List, [], ◌∷◌, ◌++◌, length, map, get_or, drop, Option, Some, None, Result, Ok, Err, refl, sym, ◌∙◌, ap, subst, arith, length-append, drop_of_length-le}
+use Rattle.std.specs.Prelude.{IfOk, MatchResult, Contains, slice_get, reverse}
 use Rattle.std.specs.List.{AllByRecursion}
+use Rattle.std.proofs.lemmas.List.{length-map, length-reverse, reverse-append, reverse-reverse}
 use Rattle.std.proofs.lemmas.List.Elements.{Contains-append_cases}
+use Rattle.std.proofs.lemmas.Option.{slice_get-get_or}
 use Rattle.pc_word.specs.declared.item.Limits.{Limits}
+use Rattle.pc_word.specs.declared.item.TrapKind.{TrapKind}
 use Rattle.pc_word.specs.Ranges.{AreLimits}
 use Rattle.pc_word.specs.Row.{Row, Then, Either, At_leaf, leaves_of, tests_of}
-use Rattle.pc_word.proofs.Places.{drop_at}
+use Rattle.pc_word.proofs.Places.{drop_at, map_at}
 use Rattle.pc_table.specs.Table.{Table}
 use Rattle.pc_machine.specs.declared.tree.Leaf.{Leaf}
 use Rattle.pc_machine.specs.declared.tree.Leaf.TheVariants.{Goto, Stop, Trap}
@@ -23,7 +26,7 @@ use Rattle.pc_window.proofs.WindowsStored.{single_window}
 use Rattle.pc_certified.specs.Facts.{Fact}
 use Rattle.pc_certified.proofs.Listed.{only}
 use Rattle.pc_matching.specs.declared.fact.Fact as stored_fact
-use Rattle.pc_matching.specs.Facts.{facts_of}
+use Rattle.pc_matching.specs.Facts.{facts_of, helds_of}
 use Rattle.pc_arranging.specs.CanArrange.{IsArrangedIn}
 use Rattle.pc_settling.specs.Remaining.{Remaining}
 use Rattle.pc_settling.specs.Settled.{settled}
@@ -34,8 +37,8 @@ use Rattle.pc_accepted.specs.declared.flaw.LeafFlaw.TheVariants.{OtherEnd}
 use Rattle.pc_accepted.specs.Accepted.{with_limits}
 use Rattle.pc_accepted.specs.Arrivals.{Arrivals}
 use Rattle.pc_accepted.specs.Leading.{Setting, Departure, LeafRefusal, Leads, LeadsOn, IsEnd, ends, ends_otherwise, goes_to, AllLeadOn, all_lead_on, one_leads_on, one_is_refused}
-use Rattle.pc_accepted.proofs.Rests.{left_proper}
-use Rattle.pc_checking.specs.models.Stored.{outcome_of}
+use Rattle.pc_accepted.proofs.Rests.{contains_first, contains_later, left_proper}
+use Rattle.pc_checking.specs.models.Stored.{left_window, outcome_of}
 use Rattle.pc_checking.specs.models.Going.{LeavesGoOn}
 
 -- ---- what is left at a leaf
@@ -48,20 +51,19 @@ rest_window arranged names limits rest same nodes =
     ∙ single_window rest arranged.names limits arranged.inside (record { tree = tree_in rest; names = supply_in arranged.names }) refl nodes
 
 -- with a copy of its names
-pub copied_rest : (arranged : StoredWindow) (names : NameTable) (limits : Limits) (rest : WindowTree) → names ≡ arranged.names
-    → IsLeft (record { tree = rest; names = arranged.names; limits = limits; inside = arranged.inside })
+pub copied_rest : (arranged : StoredWindow) (names : NameTable) (limits : Limits) (rest : WindowTree) → names ≡ arranged.names → IsLeft (left_window arranged limits rest)
     → IsLeft (record { tree = rest; names = names; limits = limits; inside = arranged.inside })
 copied_rest arranged names limits rest same left =
     subst (λ (n : NameTable). IsLeft (record { tree = rest; names = n; limits = limits; inside = arranged.inside })) (sym same) left
 
 -- it is settled, where a call settles it
 pub settled_rest : {E R : Type 0} (view : R → Remaining) (arranged : StoredWindow) (names : NameTable) (limits : Limits) (rest : WindowTree) (facts held : List stored_fact.Fact)
-    (result : Result R E) → names ≡ arranged.names → facts ≡ held → InNodes true rest
+    (result : Result R E) → names ≡ arranged.names → facts ≡ held → IsLeft (left_window arranged limits rest)
     → IfOk result (λ left. view left ≡ settled (window_in (record { tree = rest; names = names; limits = limits; inside = arranged.inside })) (facts_of facts))
     → IfOk result (λ left. view left ≡ settled (with_tree (with_limits limits (window_in arranged)) (tree_in rest)) (facts_of held))
-settled_rest view arranged names limits rest facts held (Ok left) same facts_are nodes is =
-    is ∙ (λ i. settled (rest_window arranged names limits rest same nodes i) (facts_of (facts_are i)))
-settled_rest view arranged names limits rest facts held (Err error) same facts_are nodes is = tt
+settled_rest view arranged names limits rest facts held (Ok left) same facts_are it is =
+    is ∙ (λ i. settled (rest_window arranged names limits rest same it.nodes i) (facts_of (facts_are i)))
+settled_rest view arranged names limits rest facts held (Err error) same facts_are it is = tt
 
 rest_size : (front : Front) (rest : Tree) → Contains (leaves_of (front_row (λ tree. tree) front)) rest → tree_size rest ≤ tree_size (whole front)
 rest_size (Issued tag origin item front) rest is = let less = rest_size front rest is in omega (arith, less)
@@ -72,21 +74,40 @@ rest_size (Split tag origin on p q) rest is =
     ]
 rest_size (Unfinished tree) rest is = only (λ (t : Tree). tree_size t ≤ tree_size tree) tree (omega arith) rest is
 
--- what stands behind a leaf of an arranged window is left to do, under limits of the machine
-pub rest_left : (table : Table) (arranged : StoredWindow) (limits : Limits) (rest : WindowTree) → IsArrangedIn table arranged → AreLimits limits → InNodes true rest
-    → Contains (leaves_of (front_row (λ tree. tree) (front_in arranged.tree))) (tree_in rest)
-    → IsLeft (record { tree = rest; names = arranged.names; limits = limits; inside = arranged.inside })
-rest_left table arranged limits rest it within nodes is =
-    let size = it.can.small.size in
-    let less = rest_size (front_in arranged.tree) (tree_in rest) is in
-    record {
-      proper = subst IsProper (sym (rest_window arranged arranged.names limits rest refl nodes))
-          (left_proper (window_in arranged) limits (record { ops = within.ops.0; tests = within.tests.0; mem = within.mem.0 }) it.can.proper (tree_in rest) is);
-      nodes = nodes;
-      size = omega (arith, size, less);
-    }
+module _ (table : Table) (arranged : StoredWindow) (limits : Limits) (it : IsArrangedIn table arranged) (within : AreLimits limits) where
+  -- what stands behind a leaf of an arranged window is left to do, under limits of the machine
+  rest_left : (rest : WindowTree) → InNodes true rest → Contains (leaves_of (front_row (λ tree. tree) (front_in arranged.tree))) (tree_in rest)
+      → IsLeft (left_window arranged limits rest)
+  rest_left rest nodes is =
+      let size = it.can.small.size in
+      let less = rest_size (front_in arranged.tree) (tree_in rest) is in
+      record {
+        proper = subst IsProper (sym (rest_window arranged arranged.names limits rest refl nodes))
+            (left_proper (window_in arranged) limits (record { ops = within.ops.0; tests = within.tests.0; mem = within.mem.0 }) it.can.proper (tree_in rest) is);
+        nodes = nodes;
+        size = omega (arith, size, less);
+      }
+
+  -- so is each of them
+  each_left : (rests : List WindowTree) → AllByRecursion (InNodes true) rests
+      → ((rest : Tree) → Contains (map tree_in rests) rest → Contains (leaves_of (front_row (λ tree. tree) (front_in arranged.tree))) rest)
+      → AllByRecursion (λ (rest : WindowTree). IsLeft (left_window arranged limits rest)) rests
+  each_left [] nodes are = tt
+  each_left (rest ∷ rests) nodes are = (
+    rest_left rest nodes.0 (are (tree_in rest) (contains_first (tree_in rest) (map tree_in rests))),
+    each_left rests nodes.1 (λ other there. are other (contains_later (tree_in rest) (map tree_in rests) other there)),
+  )
+
+  pub all_left : (rests : List WindowTree) → AllByRecursion (InNodes true) rests → map tree_in rests ≡ leaves_of (front_row (λ tree. tree) (front_in arranged.tree))
+      → AllByRecursion (λ (rest : WindowTree). IsLeft (left_window arranged limits rest)) rests
+  all_left rests nodes are = each_left rests nodes (λ rest there. subst (λ (list : List Tree). Contains list rest) are there)
 
 -- ---- where it leads
+
+-- a leaf that is one of these is an end
+pub end_is : (leaf : Leaf) → (leaf ≡ Stop) ⊎ ((kind : TrapKind) × (line : ℕ) × (leaf ≡ Trap kind line)) → IsEnd leaf
+end_is leaf (inl e) = subst IsEnd (sym e) tt
+end_is leaf (inr h) = subst IsEnd (sym h.2) tt
 
 -- at an end
 pub ended : (s : Setting) (departure : Departure) (left : Remaining) (arrivals : Arrivals) (leaf : Leaf) (found : Result (Unit {0}) LeafFlaw) → IsEnd leaf
@@ -97,11 +118,12 @@ ended s departure left arrivals leaf (Err why) is_end is =
     subst (λ (w : LeafFlaw). LeadsOn s departure left arrivals leaf (Err w)) (sym is.0) (ends_otherwise is_end is.1)
 
 -- at a goto, where a call leads to the row's entry
-pub gone_to : {E : Type 0} (s : Setting) (departure : Departure) (left : Remaining) (arrivals later : Arrivals) (row : ℕ) (result : Result (Result (Unit {0}) LeafFlaw) E)
-    → IfOk result (λ outcome. Leads s (Some departure) left arrivals row (outcome_of later outcome))
-    → IfOk result (λ outcome. LeadsOn s departure left arrivals (Goto row) (outcome_of later outcome))
-gone_to s departure left arrivals later row (Ok outcome) leads = goes_to leads
-gone_to s departure left arrivals later row (Err error) leads = tt
+pub gone_to : {E : Type 0} (s : Setting) (departure : Departure) (left : Remaining) (arrivals later : Arrivals) (leaf : Leaf) (row : ℕ) (result : Result (Result (Unit {0}) LeafFlaw) E)
+    → leaf ≡ Goto row → IfOk result (λ outcome. Leads s (Some departure) left arrivals row (outcome_of later outcome))
+    → IfOk result (λ outcome. LeadsOn s departure left arrivals leaf (outcome_of later outcome))
+gone_to s departure left arrivals later leaf row (Ok outcome) is leads =
+    subst (λ (l : Leaf). LeadsOn s departure left arrivals l (outcome_of later outcome)) (sym is) (goes_to leads)
+gone_to s departure left arrivals later leaf row (Err error) is leads = tt
 
 -- where what was left is settled so
 pub led_settled : {E : Type 0} (s : Setting) (departure : Departure) (left other : Remaining) (arrivals later : Arrivals) (leaf : Leaf) (result : Result (Result (Unit {0}) LeafFlaw) E)
@@ -131,42 +153,72 @@ few_leaves limits registers arrays rows row within is =
     let most = within.tests.1 in
     omega (arith, as_many, tests, most)
 
-module _ (s : Setting) (departure : Departure) (arranged : Window) (first : Arrivals) (helds : List (List Fact)) (leaves : List Leaf) (rests : List Tree) where
-  abbrev GoOn : (number : ℕ) → Arrivals → List (List Fact) → List Leaf → List Tree → Type 0
-  GoOn number arrivals more_helds more_leaves more_rests = LeavesGoOn s departure arranged first helds leaves rests number arrivals more_helds more_leaves more_rests
+-- a list that is turned round, and back
+pub turned_back : {X : Type 0} (xs turned : List X) → turned ≡ reverse xs → reverse turned ≡ xs
+turned_back xs turned is = ap reverse is ∙ reverse-reverse xs
 
-  pub from_first : GoOn 0 first helds leaves rests
-  from_first outcome all = all
+-- there are as many trees as facts
+pub as_many : (rests turned : List WindowTree) (trees : List Tree) (n : ℕ) → turned ≡ reverse rests → map tree_in rests ≡ trees → n ≡ length trees → 0 + length turned ≡ n
+as_many rests turned trees n is are many =
+    let same : length turned ≡ length rests = ap length is ∙ length-reverse rests in
+    let all : length rests ≡ length trees = sym (length-map rests tree_in) ∙ ap length are in
+    omega (arith, same, all, many)
 
-  module _ (number : ℕ) (arrivals : Arrivals) (on : GoOn number arrivals (drop number helds) (drop number leaves) (drop number rests))
-      (held : List Fact) (leaf : Leaf) (rest : Tree) (held_at : slice_get helds number ≡ Some held) (leaf_at : slice_get leaves number ≡ Some leaf)
-      (rest_at : slice_get rests number ≡ Some rest) where
+-- a leaf of a list that is read
+pub leaf_there : (leaves listed : List Leaf) (number : ℕ) (default : Leaf) → listed ≡ leaves → number < length leaves → slice_get leaves number ≡ Some (get_or listed number default)
+leaf_there leaves listed number default is within =
+    slice_get-get_or leaves number default within ∙ ap (λ (list : List Leaf). Some (get_or list number default)) (sym is)
+
+pub is_none : {X : Type 0} (xs : List X) → length xs ≡ 0 → xs ≡ []
+is_none [] none = refl
+is_none (x ∷ xs) none = absurd (omega (arith, none))
+
+-- what was put behind others, turned round
+pub reverse_more : {X : Type 0} (xs old : List X) (x : X) → old ≡ xs ++ x ∷ [] → reverse old ≡ x ∷ reverse xs
+reverse_more xs old x is = ap reverse is ∙ reverse-append xs (x ∷ [])
+
+pub length_more : {X : Type 0} (xs old : List X) (x : X) → old ≡ xs ++ x ∷ [] → length old ≡ length xs + 1
+length_more xs old x is = ap length is ∙ length-append xs (x ∷ [])
+
+module _ (s : Setting) (departure : Departure) (arranged : Window) (first : Arrivals) (helds : List (List stored_fact.Fact)) (leaves : List Leaf) (rests : List Tree) where
+  abbrev GoOn : (number : ℕ) → Arrivals → List Tree → Type 0
+  GoOn number arrivals more = LeavesGoOn s departure arranged first (helds_of helds) leaves rests number arrivals (drop number (helds_of helds)) (drop number leaves) more
+
+  module _ (number : ℕ) (arrivals : Arrivals) (held : List stored_fact.Fact) (leaf : Leaf) (old new : List WindowTree) (rest : WindowTree) (items : old ≡ new ++ rest ∷ [])
+      (on : GoOn number arrivals (map tree_in (reverse old))) (held_at : slice_get helds number ≡ Some held) (leaf_at : slice_get leaves number ≡ Some leaf) where
     at_place : (outcome : Result Arrivals LeafRefusal)
-        → AllLeadOn s departure arranged number arrivals (held ∷ drop (suc number) helds) (leaf ∷ drop (suc number) leaves) (rest ∷ drop (suc number) rests) outcome
-        → AllLeadOn s departure arranged 0 first helds leaves rests outcome
+        → AllLeadOn s departure arranged number arrivals (facts_of held ∷ drop (suc number) (helds_of helds)) (leaf ∷ drop (suc number) leaves)
+        (tree_in rest ∷ map tree_in (reverse new)) outcome → AllLeadOn s departure arranged 0 first (helds_of helds) leaves rests outcome
     at_place outcome all =
-        on outcome (subst (λ (h : List (List Fact)). AllLeadOn s departure arranged number arrivals h (drop number leaves) (drop number rests) outcome) (sym (drop_at helds number held held_at)) (
-        subst (λ (l : List Leaf). AllLeadOn s departure arranged number arrivals (held ∷ drop (suc number) helds) l (drop number rests) outcome) (sym (drop_at leaves number leaf leaf_at)) (
-        subst (λ (r : List Tree). AllLeadOn s departure arranged number arrivals (held ∷ drop (suc number) helds) (leaf ∷ drop (suc number) leaves) r outcome)
-        (sym (drop_at rests number rest rest_at)) all)))
+        let facts = sym (drop_at (helds_of helds) number (facts_of held) (map_at facts_of helds number held held_at)) in
+        let more = sym (drop_at leaves number leaf leaf_at) in
+        let trees : tree_in rest ∷ map tree_in (reverse new) ≡ map tree_in (reverse old) = sym (ap (λ (list : List WindowTree). map tree_in list) (reverse_more new old rest items)) in
+        on outcome (subst (λ (h : List (List Fact)). AllLeadOn s departure arranged number arrivals h (drop number leaves) (map tree_in (reverse old)) outcome) facts (
+        subst (λ (l : List Leaf). AllLeadOn s departure arranged number arrivals (facts_of held ∷ drop (suc number) (helds_of helds)) l (map tree_in (reverse old)) outcome) more (
+        subst (λ (t : List Tree). AllLeadOn s departure arranged number arrivals (facts_of held ∷ drop (suc number) (helds_of helds)) (leaf ∷ drop (suc number) leaves) t outcome)
+        trees all)))
 
-    -- a leaf that leads on
-    pub one_on : (later : Arrivals) → LeadsOn s departure (settled (with_tree arranged rest) held) arrivals leaf (Ok later)
-        → GoOn (suc number) later (drop (suc number) helds) (drop (suc number) leaves) (drop (suc number) rests)
-    one_on later leads outcome all = at_place outcome (one_leads_on leads all)
+    module _ (later : Arrivals) (led : Result (Unit {0}) LeafFlaw)
+        (leads : LeadsOn s departure (settled (with_tree arranged (tree_in rest)) (facts_of held)) arrivals leaf (outcome_of later led)) where
+      -- a leaf that leads on
+      pub one_on : (done : Unit {0}) → led ≡ Ok done → GoOn (number + 1) later (map tree_in (reverse new))
+      one_on done is =
+          subst (λ (n : ℕ). GoOn n later (map tree_in (reverse new))) (let e : suc number ≡ number + 1 = omega arith in e)
+          (λ outcome all. at_place outcome (one_leads_on (
+          subst (λ (r : Result (Unit {0}) LeafFlaw). LeadsOn s departure (settled (with_tree arranged (tree_in rest)) (facts_of held)) arrivals leaf (outcome_of later r)) is leads) all))
 
-    -- a leaf that does not
-    pub one_refused : (why : LeafFlaw) → LeadsOn s departure (settled (with_tree arranged rest) held) arrivals leaf (Err why)
-        → AllLeadOn s departure arranged 0 first helds leaves rests (Err (record { leaf = number; why = why }))
-    one_refused why leads = at_place (Err (record { leaf = number; why = why })) (one_is_refused leads)
+      -- a leaf that does not
+      pub one_refused : (why : LeafFlaw) → led ≡ Err why → AllLeadOn s departure arranged 0 first (helds_of helds) leaves rests (Err (record { leaf = number; why = why }))
+      one_refused why is = at_place (Err (record { leaf = number; why = why })) (one_is_refused (
+          subst (λ (r : Result (Unit {0}) LeafFlaw). LeadsOn s departure (settled (with_tree arranged (tree_in rest)) (facts_of held)) arrivals leaf (outcome_of later r)) is leads))
 
   -- and the end
-  pub all_on : (number : ℕ) (arrivals : Arrivals) → GoOn number arrivals (drop number helds) (drop number leaves) (drop number rests)
-      → length helds ≤ number → length leaves ≤ number → length rests ≤ number → AllLeadOn s departure arranged 0 first helds leaves rests (Ok arrivals)
-  all_on number arrivals on no_helds no_leaves no_rests =
-      on (Ok arrivals) (subst (λ (h : List (List Fact)). AllLeadOn s departure arranged number arrivals h (drop number leaves) (drop number rests) (Ok arrivals)) (sym (past helds no_helds)) (
-      subst (λ (l : List Leaf). AllLeadOn s departure arranged number arrivals [] l (drop number rests) (Ok arrivals)) (sym (past leaves no_leaves)) (
-      subst (λ (r : List Tree). AllLeadOn s departure arranged number arrivals [] [] r (Ok arrivals)) (sym (past rests no_rests)) all_lead_on)))
-    where
-      past : {A : Type 0} (xs : List A) → length xs ≤ number → drop number xs ≡ []
-      past xs le = drop_of_length-le xs le
+  pub all_on : (number : ℕ) (arrivals : Arrivals) (none : List WindowTree) → none ≡ [] → GoOn number arrivals (map tree_in (reverse none))
+      → length helds ≤ number → length leaves ≤ number → AllLeadOn s departure arranged 0 first (helds_of helds) leaves rests (Ok arrivals)
+  all_on number arrivals none is on no_helds no_leaves =
+      let many = length-map helds facts_of in
+      on (Ok arrivals) (
+      subst (λ (h : List (List Fact)). AllLeadOn s departure arranged number arrivals h (drop number leaves) (map tree_in (reverse none)) (Ok arrivals))
+      (sym (drop_of_length-le (helds_of helds) (omega (arith, many, no_helds)))) (
+      subst (λ (l : List Leaf). AllLeadOn s departure arranged number arrivals [] l (map tree_in (reverse none)) (Ok arrivals)) (sym (drop_of_length-le leaves no_leaves)) (
+      subst (λ (t : List WindowTree). AllLeadOn s departure arranged number arrivals [] [] (map tree_in (reverse t)) (Ok arrivals)) (sym is) all_lead_on)))

@@ -1,16 +1,18 @@
 -- Entries that pass, in memory.
-use Rattle.std.proofs.Common.{◌≡◌, ℕ, suc, ◌<◌, ◌≤◌, List, length, map, Option, Some, None, Result, Ok, Err, refl, sym, ◌∙◌, ap, subst}
+use Rattle.std.proofs.Common.{◌≡◌, ℕ, suc, ◌+◌, ◌<◌, ◌≤◌, List, length, map, Option, Some, None, Result, Ok, Err, refl, sym, ◌∙◌, ap, subst, get_or, arith}
 use Rattle.std.specs.Prelude.{slice_get, option_map}
 use Rattle.std.proofs.lemmas.List.{length-map}
-use Rattle.std.proofs.lemmas.Option.{slice_get-map}
+use Rattle.std.proofs.lemmas.Option.{slice_get-map, slice_get_read, slice_get_past}
 use Rattle.pc_word.specs.Row.{leaves_of}
 use Rattle.pc_word.specs.declared.row_tree.RowTree.{RowTree}
 use Rattle.pc_word.proofs.Lists.{all_at}
 use Rattle.pc_word.proofs.Places.{map_at}
+use Rattle.pc_table.specs.Table.{Table}
 use Rattle.pc_machine.specs.declared.tree.Leaf.{Leaf}
 use Rattle.pc_machine.specs.MachineCode.{CodeRow, row_of, code_of}
 use Rattle.pc_machine.specs.WellFormed.{IsRow}
 use Rattle.pc_cert.specs.declared.certificate.Entry.{Entry}
+use Rattle.pc_cert.specs.declared.certificate.Step.{Step}
 use Rattle.pc_window.specs.Tree.{whole}
 use Rattle.pc_window.specs.Unwinding.{front_tag}
 use Rattle.pc_window.specs.Steps.{front_row}
@@ -24,24 +26,15 @@ use Rattle.pc_accepted.specs.declared.flaw.Flaw.{Flaw}
 use Rattle.pc_accepted.specs.declared.flaw.Flaw.TheVariants as flaw
 use Rattle.pc_accepted.specs.declared.flaw.Rejection.{Rejection}
 use Rattle.pc_accepted.specs.Arrivals.{Arrivals, FirstArrival}
-use Rattle.pc_accepted.specs.Leading.{Setting, Departure, LeafRefusal, AllLeadOn}
-use Rattle.pc_accepted.specs.Accepted.{with_limits, departure_of, IsDone, Passes, not_reached, has_no_row, not_arranged, not_matched, leaf_refused, passes_on, AllPass, all_passed, one_passed, one_rejected}
+use Rattle.pc_accepted.specs.Leading.{Setting, AllLeadOn}
+use Rattle.pc_accepted.specs.Accepted.{with_limits, LeavesLeadOn, IsDone, Passes, not_reached, has_no_row, not_arranged, not_matched, leaf_refused, passes_on, AllPass, all_passed, one_passed, one_rejected}
 use Rattle.pc_checking.specs.declared.arranged.Arranged as stored_arranged
+use Rattle.pc_checking.specs.declared.leaves.LeafRefusal as stored_refusal
 use Rattle.pc_checking.specs.declared.setting.Setting as stored_setting
-use Rattle.pc_checking.specs.declared.arrival.FirstArrival as stored_arrival
-use Rattle.pc_checking.specs.models.Stored.{arrival_in, some_arrival_in, arrivals_in, outcome_of, IsSetting, IsRowOf}
+use Rattle.pc_checking.specs.models.Stored.{outcome_of, leaves_outcome, IsSetting, IsRowOf}
 use Rattle.pc_checking.specs.models.Going.{ArrangesFor, is_illegal, is_other, is_arranged, EntriesGoOn}
 
 -- ---- one entry
-
--- nothing has arrived, in memory
-pub was_nothing : (arrivals : List (Option stored_arrival.FirstArrival)) (number : ℕ) → slice_get arrivals number ≡ Some None → slice_get (arrivals_in arrivals) number ≡ Some None
-was_nothing arrivals number is = map_at some_arrival_in arrivals number None is
-
--- and something
-pub was_there : (arrivals : List (Option stored_arrival.FirstArrival)) (number : ℕ) (arrived : stored_arrival.FirstArrival) → slice_get arrivals number ≡ Some (Some arrived)
-    → slice_get (arrivals_in arrivals) number ≡ Some (Some (arrival_in arrived))
-was_there arrivals number arrived is = map_at some_arrival_in arrivals number (Some arrived) is
 
 -- a row that is not there, in memory
 pub no_row : (rows : List (RowTree Leaf)) (number : ℕ) → None ≡ slice_get rows number → slice_get (map row_of rows) number ≡ None
@@ -55,12 +48,26 @@ row_there rows number row is = map_at row_of rows number row (sym is)
 pub row_keeps : (s : stored_setting.Setting) (number : ℕ) (row : RowTree Leaf) → IsSetting s → Some row ≡ slice_get s.code.now.rows number → IsRowOf s (row_of row)
 row_keeps s number row is there =
     subst (λ (n : ℕ). IsRow s.code.now.limits s.code.now.registers (length s.code.now.arrays) n (row_of row)) (length-map s.code.now.rows row_of)
-    (all_at _ (map row_of s.code.now.rows) number (row_of row) is.formed.rows (row_there s.code.now.rows number row there))
+    (all_at (IsRow s.code.now.limits s.code.now.registers (length s.code.now.arrays) (length (map row_of s.code.now.rows))) (map row_of s.code.now.rows) number (row_of row) is.formed.rows (row_there s.code.now.rows number row there))
+
+pub pass_nowhere : (s : Setting) (number : ℕ) (entry : Entry) (arrivals : Arrivals) → slice_get arrivals number ≡ Some None → Passes s number entry arrivals (Err flaw.Unreached)
+pass_nowhere s number entry arrivals was = not_reached was
+
+pub pass_no_row : (s : Setting) (number : ℕ) (entry : Entry) (arrivals : Arrivals) (arrived : FirstArrival) → slice_get arrivals number ≡ Some (Some arrived)
+    → slice_get s.code.rows entry.row ≡ None → Passes s number entry arrivals (Err flaw.NoRow)
+pass_no_row s number entry arrivals arrived was none = has_no_row was none
+
+-- what has come of arranging
+pub arranged_so : (table : Table) (steps given : List Step) (arrived : FirstArrival) (row : CodeRow) (found outcome : Result stored_arranged.Arranged Flaw) → given ≡ steps
+    → found ≡ outcome → ArrangesFor table given arrived row found → ArrangesFor table steps arrived row outcome
+arranged_so table steps given arrived row found outcome same is so =
+    subst (λ (list : List Step). ArrangesFor table list arrived row outcome) same
+    (subst (λ (o : Result stored_arranged.Arranged Flaw). ArrangesFor table given arrived row o) is so)
 
 module _ (s : Setting) (number : ℕ) (entry : Entry) (arrivals : Arrivals) (arrived : FirstArrival) (row : CodeRow)
     (was : slice_get arrivals number ≡ Some (Some arrived)) (there : slice_get s.code.rows entry.row ≡ Some row) where
   pub pass_not : (why : Flaw) → ArrangesFor s.table entry.steps arrived row (Err why) → Passes s number entry arrivals (Err why)
-  pass_not why (is_illegal no) = not_arranged was there no
+  pass_not why (is_illegal never) = not_arranged was there never
   pass_not why (is_other arranges none) = not_matched was there arranges none
 
   module _ (arranged : stored_arranged.Arranged) (so : ArrangesFor s.table entry.steps arrived row (Ok arranged)) where
@@ -87,34 +94,51 @@ module _ (s : Setting) (number : ℕ) (entry : Entry) (arrivals : Arrivals) (arr
         sym (length-map arranged.helds facts_of)
         ∙ (each_leaf_has_facts arrived.facts row (front_row (λ tree. tree) (window_in arranged.window).front) (helds_of arranged.helds) is_done.does).1
 
-    module _ (tag : ℕ) (tag_is : tag ≡ front_tag (whole arrived.window.front)) where
-      abbrev Lead : Result Arrivals LeafRefusal → Type 0
-      Lead outcome =
-          AllLeadOn s (record { rank = entry.rank; tag = tag }) (with_limits s.code.limits (window_in arranged.window)) 0 arrivals (helds_of arranged.helds) (leaves_of row)
-          (leaves_of (front_row (λ tree. tree) (window_in arranged.window).front)) outcome
+    module _ (tag : ℕ) (tag_is : tag ≡ front_tag (whole arrived.window.front)) (given : List (List stored_fact.Fact)) (given_is : given ≡ arranged.helds) (later : Arrivals)
+        (led : Result (Unit {0}) stored_refusal.LeafRefusal)
+        (leads : AllLeadOn s (record { rank = entry.rank; tag = tag }) (with_limits s.code.limits (window_in arranged.window)) 0 arrivals (helds_of given) (leaves_of row)
+        (leaves_of (front_row (λ tree. tree) (window_in arranged.window).front)) (leaves_outcome later led)) where
+      leads_so : (outcome : Result (Unit {0}) stored_refusal.LeafRefusal) → led ≡ outcome → LeavesLeadOn s entry arrived row (window_in arranged.window) (helds_of arranged.helds) arrivals
+          (leaves_outcome later outcome)
+      leads_so outcome is =
+          subst (λ (t : ℕ). AllLeadOn s (record { rank = entry.rank; tag = t }) (with_limits s.code.limits (window_in arranged.window)) 0 arrivals (helds_of arranged.helds) (leaves_of row)
+          (leaves_of (front_row (λ tree. tree) (window_in arranged.window).front)) (leaves_outcome later outcome)) tag_is (
+          subst (λ (h : List (List stored_fact.Fact)). AllLeadOn s (record { rank = entry.rank; tag = tag }) (with_limits s.code.limits (window_in arranged.window)) 0 arrivals (helds_of h)
+          (leaves_of row) (leaves_of (front_row (λ tree. tree) (window_in arranged.window).front)) (leaves_outcome later outcome)) given_is (
+          subst (λ (o : Result (Unit {0}) stored_refusal.LeafRefusal). AllLeadOn s (record { rank = entry.rank; tag = tag }) (with_limits s.code.limits (window_in arranged.window)) 0 arrivals
+          (helds_of given) (leaves_of row) (leaves_of (front_row (λ tree. tree) (window_in arranged.window).front)) (leaves_outcome later o)) is leads))
 
-      from_tag : (outcome : Result Arrivals LeafRefusal) → Lead outcome
-          → AllLeadOn s (departure_of entry arrived) (with_limits s.code.limits (window_in arranged.window)) 0 arrivals (helds_of arranged.helds) (leaves_of row)
-          (leaves_of (front_row (λ tree. tree) (window_in arranged.window).front)) outcome
-      from_tag outcome lead =
-          subst (λ (t : ℕ). AllLeadOn s (record { rank = entry.rank; tag = t }) (with_limits s.code.limits (window_in arranged.window)) 0 arrivals (helds_of arranged.helds)
-          (leaves_of row) (leaves_of (front_row (λ tree. tree) (window_in arranged.window).front)) outcome) tag_is lead
+      pub pass_on : (done : Unit {0}) → led ≡ Ok done → Passes s number entry arrivals (Ok later)
+      pass_on done is = passes_on was is_done (leads_so (Ok done) is)
 
-      pub pass_on : (later : Arrivals) → Lead (Ok later) → Passes s number entry arrivals (Ok later)
-      pass_on later lead = passes_on was is_done (from_tag (Ok later) lead)
-
-      pub pass_no_leaf : (leaf : ℕ) (why : LeafFlaw) → Lead (Err (record { leaf = leaf; why = why })) → Passes s number entry arrivals (Err (flaw.Leaf leaf why))
-      pass_no_leaf leaf why lead = leaf_refused was is_done (from_tag (Err (record { leaf = leaf; why = why })) lead)
+      pub pass_no_leaf : (refusal : stored_refusal.LeafRefusal) → led ≡ Err refusal → Passes s number entry arrivals (Err (flaw.Leaf refusal.leaf refusal.why))
+      pass_no_leaf refusal is = leaf_refused was is_done (leads_so (Err refusal) is)
 
 -- ---- one entry after the other
 
-module _ (s : Setting) (first : Arrivals) (number : ℕ) (arrivals : Arrivals) (on : EntriesGoOn s first number arrivals) where
-  pub entry_passed : (entry : Entry) (later : Arrivals) → slice_get s.entries number ≡ Some entry → Passes s number entry arrivals (Ok later) → EntriesGoOn s first (suc number) later
-  entry_passed entry later there passes outcome all = on outcome (one_passed there passes all)
+-- the entry of a number
+pub entry_at : (entries : List Entry) (number index : ℕ) (entry : Entry) → number ≡ index → index < length entries → entry ≡ get_or entries index entry
+    → slice_get entries number ≡ Some entry
+entry_at entries number index entry same within is =
+    ap (λ (n : ℕ). slice_get entries n) same ∙ slice_get_read entries (length entries) index entry refl within is
 
-  pub entry_refused : (entry : Entry) (why : Flaw) → slice_get s.entries number ≡ Some entry → Passes s number entry arrivals (Err why)
-      → AllPass s 0 first (Err (record { entry = number; flaw = why }))
-  entry_refused entry why there passes = on (Err (record { entry = number; flaw = why })) (one_rejected there passes)
+-- and none past the last
+pub no_entry : (entries : List Entry) (number index : ℕ) → number ≡ index → length entries ≤ index → slice_get entries number ≡ None
+no_entry entries number index is past = ap (λ (n : ℕ). slice_get entries n) is ∙ slice_get_past entries index past
+
+module _ (s : Setting) (first : Arrivals) (number : ℕ) (arrivals : Arrivals) (on : EntriesGoOn s first number arrivals) where
+  module _ (entry : Entry) (there : slice_get s.entries number ≡ Some entry) (later : Arrivals) (found : Result (Unit {0}) Flaw)
+      (passes : Passes s number entry arrivals (outcome_of later found)) where
+    so : (outcome : Result (Unit {0}) Flaw) → found ≡ outcome → Passes s number entry arrivals (outcome_of later outcome)
+    so outcome is = subst (λ (o : Result (Unit {0}) Flaw). Passes s number entry arrivals (outcome_of later o)) is passes
+
+    pub entry_passed : (done : Unit {0}) → found ≡ Ok done → EntriesGoOn s first (number + 1) later
+    entry_passed done is =
+        subst (λ (n : ℕ). EntriesGoOn s first n later) (let e : suc number ≡ number + 1 = omega arith in e)
+        (λ outcome all. on outcome (one_passed there (so (Ok done) is) all))
+
+    pub entry_refused : (why : Flaw) → found ≡ Err why → AllPass s 0 first (Err (record { entry = number; flaw = why }))
+    entry_refused why is = on (Err (record { entry = number; flaw = why })) (one_rejected there (so (Err why) is))
 
   pub entries_passed : slice_get s.entries number ≡ None → AllPass s 0 first (Ok arrivals)
   entries_passed none = on (Ok arrivals) (all_passed none)

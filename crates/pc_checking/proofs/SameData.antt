@@ -28,11 +28,14 @@ module _ {X : Type 0} (xs ys : List X) (at : ℕ) (x y : X) (here : x ≡ get_or
 
   -- or lists are not
   pub not_same : same ≡ false → (false ≡ true) ↔ (xs ≡ ys)
-  not_same no = (λ e. absurd (cc), λ e. absurd (
-      let one : x ≡ y = some_one x y (sym (slice_get_read xs (length xs) at x refl within here) ∙ ap (λ (list : List X). slice_get list at) e
-      ∙ slice_get_read ys (length ys) at y refl within' there) in
-      let is : true ≡ false = sym (tells.1 one) ∙ no in cc
-      ))
+  not_same differ = (
+    λ e. absurd (cc),
+    λ e. absurd (
+        let one : x ≡ y = some_one x y (sym (slice_get_read xs (length xs) at x refl within here) ∙ ap (λ (list : List X). slice_get list at) e
+        ∙ slice_get_read ys (length ys) at y refl within' there) in
+        let is : true ≡ false = sym (tells.1 one) ∙ differ in cc
+        ),
+  )
 
 take_all : {X : Type 0} (xs : List X) → take (length xs) xs ≡ xs
 take_all [] = refl

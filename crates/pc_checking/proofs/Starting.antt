@@ -18,7 +18,7 @@ use Rattle.pc_accepted.specs.declared.flaw.Flaw.TheVariants as flaw
 use Rattle.pc_accepted.specs.declared.flaw.Rejection.{Rejection}
 use Rattle.pc_accepted.specs.Arrivals.{Arrivals, no_arrivals}
 use Rattle.pc_accepted.specs.Leading.{Setting, Leads}
-use Rattle.pc_accepted.specs.Accepted.{AllPass, at_start, at_first, HasData, Answers, has_other_data, does_not_start, starts, Accepts, Rejects, setting_of}
+use Rattle.pc_accepted.specs.Accepted.{AllPass, StartLeads, at_start, at_first, HasData, Answers, has_other_data, does_not_start, starts, Accepts, Rejects, setting_of}
 use Rattle.pc_checking.specs.models.Stored.{outcome_of}
 use Rattle.pc_checking.specs.models.Going.{GoesThrough}
 
@@ -37,29 +37,27 @@ pub ruleset starting = (region_there, starts_with, opened_left)
 
 -- ---- the answer
 
-module _ (s : Setting) (none left : Arrivals) (none_is : none ≡ no_arrivals s.entries) where
-  abbrev Starts : Remaining → Result Arrivals LeafFlaw → Type 0
-  Starts start outcome = Leads s None start none 0 outcome
+module _ (s : Setting) (none : Arrivals) (none_is : none ≡ no_arrivals s.entries) (start : Remaining) (start_is : start ≡ at_start s.table s.code) (later : Arrivals)
+    (led : Result (Unit {0}) LeafFlaw) (leads : Leads s None start none 0 (outcome_of later led)) where
+  start_leads : (outcome : Result (Unit {0}) LeafFlaw) → led ≡ outcome → StartLeads s (outcome_of later outcome)
+  start_leads outcome is =
+      subst (λ (a : Arrivals). Leads s None (at_start s.table s.code) a 0 (outcome_of later outcome)) none_is (
+      subst (λ (r : Remaining). Leads s None r none 0 (outcome_of later outcome)) start_is (
+      subst (λ (o : Result (Unit {0}) LeafFlaw). Leads s None start none 0 (outcome_of later o)) is leads))
 
-  from_start : (start : Remaining) (outcome : Result Arrivals LeafFlaw) → start ≡ at_start s.table s.code → Starts start outcome
-      → Leads s None (at_start s.table s.code) (no_arrivals s.entries) 0 outcome
-  from_start start outcome start_is leads =
-      subst (λ (a : Arrivals). Leads s None (at_start s.table s.code) a 0 outcome) none_is (subst (λ (r : Remaining). Leads s None r none 0 outcome) start_is leads)
+  pub through_not : (why : LeafFlaw) → led ≡ Err why → GoesThrough {U = Unit {0}} s (Err (at_first (flaw.Start why)))
+  through_not why is words same = does_not_start same (start_leads (Err why) is)
 
-  pub through_not : {U : Type 0} (start : Remaining) (why : LeafFlaw) → start ≡ at_start s.table s.code → Starts start (Err why)
-      → GoesThrough {U = U} s (Err (at_first (flaw.Start why)))
-  through_not start why start_is leads words same = does_not_start same (from_start start (Err why) start_is leads)
-
-  pub through_all : {E : Type 0} (start : Remaining) (later last : Arrivals) (result : Result (Result (Unit {0}) Rejection) E) → start ≡ at_start s.table s.code → Starts start (Ok later)
+  pub through_all : {E : Type 0} (done : Unit {0}) → led ≡ Ok done → (last : Arrivals) (result : Result (Result (Unit {0}) Rejection) E)
       → IfOk result (λ outcome. AllPass s 0 later (outcome_of last outcome)) → IfOk result (λ outcome. GoesThrough s outcome)
-  through_all start later last (Ok (Ok done)) start_is leads all words same = (last, starts same (from_start start (Ok later) start_is leads) all)
-  through_all start later last (Ok (Err why)) start_is leads all words same = starts same (from_start start (Ok later) start_is leads) all
-  through_all start later last (Err error) start_is leads all = tt
+  through_all done is last (Ok (Ok passed)) all = λ words same. (last, starts same (start_leads (Ok done) is) all)
+  through_all done is last (Ok (Err why)) all = λ words same. starts same (start_leads (Ok done) is) all
+  through_all done is last (Err error) all = tt
 
 module _ (table : Table) (words : List (List ℤ)) (code : RowCode) (entries : List Entry) where
-  pub answer_other : {U : Type 0} (same : Bool) → (same ≡ true) ↔ HasData table.arrays words code → same ≡ false
-      → MatchResult {U} (Err (at_first flaw.OtherData)) (λ _. Accepts table words code entries) (λ rejection. Rejects table words code entries rejection)
-  answer_other same tells no = has_other_data (λ h. absurd (let e : true ≡ false = sym (tells.1 h) ∙ no in cc))
+  pub answer_other : (same : Bool) → (same ≡ true) ↔ HasData table.arrays words code → same ≡ false
+      → MatchResult (let it : Result (Unit {0}) Rejection = Err (at_first flaw.OtherData) in it) (λ _. Accepts table words code entries) (λ rejection. Rejects table words code entries rejection)
+  answer_other same tells other = has_other_data (λ h. absurd (let e : true ≡ false = sym (tells.1 h) ∙ other in cc))
 
   pub answer_all : {E : Type 0} (same : Bool) (result : Result (Result (Unit {0}) Rejection) E) → (same ≡ true) ↔ HasData table.arrays words code → same ≡ true
       → IfOk result (λ outcome. GoesThrough (setting_of table code entries) outcome)

@@ -38,7 +38,7 @@ pub(crate) fn no_arrivals(
 }
 
 /// A copy of a window with its names numbered anew.
-#[tactic(auto, using(crate::proofs::Arrived::renumbering))]
+#[tactic(auto, using(crate::proofs::Arrived::copied_left))]
 fn renumbered_copy(alloc: Global, window: &Window) -> Result<Window, WindowError>
     requires { IsLeft window.now }
     ensures same { IfOk result (λ copy. Renumbers (window_in window.now) (window_in copy)) }

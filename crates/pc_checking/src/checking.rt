@@ -5,12 +5,13 @@ ghost use Rattle.pc_table.specs.StoredTable.{table_of};
 ghost use Rattle.pc_machine.specs.MachineCode.{code_of};
 ghost use Rattle.pc_machine.specs.WellFormed.{WellFormed};
 ghost use Rattle.pc_settling.specs.Stored.{remaining_in, IsLeft};
+ghost use Rattle.pc_accepted.specs.Arrivals.{no_arrivals};
 ghost use Rattle.pc_accepted.specs.Accepted.{at_start, HasData, Accepts, Rejects};
 ghost use Rattle.pc_checking.specs.Checked.{WhyNot};
 ghost use Rattle.pc_checking.specs.models.Going.{GoesThrough};
-ghost use Rattle.pc_checking.specs.models.Stored.{setting_in, IsSetting};
+ghost use Rattle.pc_checking.specs.models.Stored.{arrivals_in, setting_in, IsSetting};
 
-use crate::arrival::no_arrivals;
+use crate::arrival::{FirstArrival, no_arrivals};
 use crate::data::has_data;
 use crate::error::CheckError;
 use crate::leading::lead;
@@ -37,6 +38,28 @@ fn at_start(alloc: Global, table: &RegionTable, code: &Code) -> Result<Remaining
     Ok(Remaining { window, facts })
 }
 
+/// Goes through the entries from what is still to be done before row 0, before anything has arrived.
+fn from_start(
+    alloc: Global,
+    setting: &Setting,
+    start: Remaining,
+    arrivals: &mut [Option<FirstArrival>],
+) -> Result<Result<(), Rejection>, OutOfMemory>
+    requires setting { IsSetting setting.now }
+    requires start { remaining_in start ≡ at_start (table_of setting.now.table.now) (code_of setting.now.code.now) }
+    requires left { IsLeft start.window }
+    requires nothing { arrivals_in arrivals.old ≡ no_arrivals setting.now.entries.now }
+    ensures { IfOk result (λ outcome. GoesThrough (setting_in setting.now) outcome) }
+{
+    if let Err(why) = lead(alloc, setting, None, start, 0, arrivals)? {
+        return Ok(Err(Rejection {
+            entry: 0,
+            flaw: Flaw::Start { why },
+        }));
+    }
+    all_pass(alloc, setting, arrivals)
+}
+
 /// Goes through the entries, where the code's data are those of the source.
 fn go_through(alloc: Global, setting: &Setting) -> Result<Result<(), Rejection>, OutOfMemory>
     requires { IsSetting setting.now }
@@ -44,13 +67,7 @@ fn go_through(alloc: Global, setting: &Setting) -> Result<Result<(), Rejection>,
 {
     let mut arrivals = no_arrivals(alloc, setting.entries)?;
     let start = at_start(alloc, setting.table, setting.code)?;
-    if let Err(why) = lead(alloc, setting, None, start, 0, &mut arrivals)? {
-        return Ok(Err(Rejection {
-            entry: 0,
-            flaw: Flaw::Start { why },
-        }));
-    }
-    all_pass(alloc, setting, &mut arrivals)
+    from_start(alloc, setting, start, &mut arrivals)
 }
 
 /// The answer to a certificate with these entries.
@@ -66,7 +83,7 @@ fn answer(
     ensures { IfOk result (λ outcome. MatchResult outcome (λ _. Accepts (table_of table.now) initial.now (code_of code.now) entries.now)
         (λ rejection. Rejects (table_of table.now) initial.now (code_of code.now) entries.now rejection)) }
 {
-    if !has_data(code, table.arrays.as_slice(), initial.as_slice()) {
+    if !has_data(code, &table.arrays, initial) {
         return Ok(Err(Rejection {
             entry: 0,
             flaw: Flaw::OtherData,

@@ -4,7 +4,7 @@ ghost use Rattle.pc_machine.specs.MachineCode.{code_of};
 ghost use Rattle.pc_accepted.specs.Accepted.{HasData};
 
 use pc_machine::Code;
-use pc_word::WordList;
+use pc_word::{DataList, LengthList, WordList};
 
 /// Whether two lists of words are equal.
 fn same_words(words: &[i32], others: &[i32]) -> bool
@@ -30,11 +30,11 @@ fn same_lists(lists: &[WordList], others: &[WordList]) -> bool
 }
 
 /// Whether a code has arrays of these lengths, which begin with these words.
-pub(crate) fn has_data(code: &Code, arrays: &[u32], words: &[WordList]) -> bool
+pub(crate) fn has_data(code: &Code, arrays: &LengthList, words: &DataList) -> bool
     ensures { (result ≡ true) ↔ HasData arrays.now words.now (code_of code.now) }
 {
-    if code.arrays.as_slice() != arrays {
+    if code.arrays.as_slice() != arrays.as_slice() {
         return false;
     }
-    same_lists(code.initial.as_slice(), words)
+    same_lists(code.initial.as_slice(), words.as_slice())
 }

@@ -1,13 +1,12 @@
 //! Where the leaves of a row lead.
-ghost use Rattle.std.specs.Prelude.{◌≡◌, ◌++◌, true, Some, length, Contains, IfOk, OnOk, MatchResult};
-ghost use Rattle.std.specs.List.{AllByRecursion};
+ghost use Rattle.std.specs.Prelude.{◌≡◌, ◌++◌, Some, length, IfOk, OnOk, MatchResult};
 ghost use Rattle.pc_word.specs.Row.{leaves_of};
 ghost use Rattle.pc_table.specs.StoredTable.{table_of};
-ghost use Rattle.pc_machine.specs.MachineCode.{row_of, code_of};
+ghost use Rattle.pc_machine.specs.MachineCode.{row_of};
 ghost use Rattle.pc_machine.specs.WellFormed.{IsLeaf};
 ghost use Rattle.pc_window.specs.Tree.{whole};
 ghost use Rattle.pc_window.specs.Steps.{with_tree, front_row};
-ghost use Rattle.pc_window.specs.StoredWindow.{tree_in, front_in, window_in, InNodes};
+ghost use Rattle.pc_window.specs.StoredWindow.{tree_in, front_in, window_in};
 ghost use Rattle.pc_matching.specs.Facts.{facts_of, helds_of};
 ghost use Rattle.pc_arranging.specs.CanArrange.{IsArrangedIn};
 ghost use Rattle.pc_settling.specs.Arrives.{end_of};
@@ -16,7 +15,7 @@ ghost use Rattle.pc_settling.specs.Stored.{remaining_in, IsLeft};
 ghost use Rattle.pc_accepted.specs.declared.flaw.LeafFlaw.TheVariants.{OtherEnd};
 ghost use Rattle.pc_accepted.specs.Leading.{LeadsOn, AllLeadOn};
 ghost use Rattle.pc_accepted.specs.Accepted.{with_limits};
-ghost use Rattle.pc_checking.specs.models.Stored.{arrivals_in, setting_in, departure_in, outcome_of, leaves_outcome, IsSetting, IsRowOf, AreKept};
+ghost use Rattle.pc_checking.specs.models.Stored.{left_window, arrivals_in, setting_in, departure_in, outcome_of, leaves_outcome, IsSetting, IsRowOf, AreKept};
 
 use crate::arrival::FirstArrival;
 use crate::copying::copy_names;
@@ -31,7 +30,7 @@ use pc_window::{Window, WindowTree};
 use pc_word::{Limits, OutOfMemory, RowTree, Seq};
 use std::alloc::{AllocError, Global};
 
-/// The leaves of a row, in preorder.
+/// Leaves, in preorder.
 type LeafList = Seq<Leaf>;
 
 /// The leaf of a row that does not lead on, by its number in preorder, and why.
@@ -55,6 +54,15 @@ fn push_leaves(leaves: &mut LeafList, row: &Tree) -> Result<(), AllocError>
     }
 }
 
+/// The leaves of a row, in preorder.
+fn leaves_of(alloc: Global, row: &Tree) -> Result<LeafList, AllocError>
+    ensures { IfOk result (λ leaves. leaves ≡ leaves_of (row_of row.now)) }
+{
+    let mut leaves = LeafList::new(alloc);
+    push_leaves(&mut leaves, row)?;
+    Ok(leaves)
+}
+
 /// What is left of an arranged window at a leaf, under these limits, settled.
 #[tactic(auto, using(crate::proofs::LeftAtLeaves::copied_rest))]
 fn left_at_leaf(
@@ -64,8 +72,7 @@ fn left_at_leaf(
     rest: WindowTree,
     held: &[Fact],
 ) -> Result<Remaining, OutOfMemory>
-    requires nodes { InNodes true rest }
-    requires left { IsLeft (record { tree = rest; names = arranged.now.names; limits = limits; inside = arranged.now.inside }) }
+    requires { IsLeft (left_window arranged.now limits rest) }
     ensures settled { IfOk result (λ left. remaining_in left ≡ settled (with_tree (with_limits limits (window_in arranged.now)) (tree_in rest)) (facts_of held.now)) }
     ensures left { IfOk result (λ left. IsLeft left.window) }
 {
@@ -126,9 +133,7 @@ fn leaf_leads_on(
     arrivals: &mut [Option<FirstArrival>],
 ) -> Result<Result<(), LeafFlaw>, OutOfMemory>
     requires setting { IsSetting setting.now }
-    requires arranged { IsArrangedIn (table_of setting.now.table.now) arranged.now }
-    requires nodes { InNodes true rest }
-    requires rest { Contains (leaves_of (front_row (λ tree. tree) (front_in arranged.now.tree))) (tree_in rest) }
+    requires left { IsLeft (left_window arranged.now setting.now.code.now.limits rest) }
     requires leaf { IsLeaf (length setting.now.code.now.rows) leaf }
     requires kept { AreKept setting.now arrivals.old }
     ensures leads { IfOk result (λ outcome. LeadsOn (setting_in setting.now) (departure_in departure)
@@ -162,14 +167,17 @@ pub(crate) fn leaves_lead_on(
         (leaves_outcome (arrivals_in arrivals.new) outcome)) }
     ensures kept { OnOk result (AreKept setting.now arrivals.new) }
 {
-    let mut leaves = LeafList::new(alloc);
-    push_leaves(&mut leaves, row)?;
+    let leaves = leaves_of(alloc, row)?;
     let leaves = leaves.as_slice();
+    let mut rests = rests_of(alloc, &arranged.tree)?;
+    rests.reverse();
     let mut leaf = 0;
-    for rest in rests_of(alloc, &arranged.tree)? {
+    while let Some(rest) = rests.pop() {
         let held = &helds[leaf as usize];
         let next = leaves[leaf as usize];
-        let led = leaf_leads_on(alloc, setting, departure, arranged, rest, held, next, arrivals)?;
+        let led = leaf_leads_on(
+            alloc, setting, departure, arranged, rest, held, next, arrivals,
+        )?;
         if let Err(why) = led {
             return Ok(Err(LeafRefusal { leaf, why }));
         }

@@ -5,7 +5,7 @@ ghost use Rattle.pc_checking.specs.models.Stored.{arrivals_in, setting_in, outco
 
 use crate::arranged::{Arranged, arrange};
 use crate::arrival::FirstArrival;
-use crate::leaves::{LeafRefusal, leaves_lead_on};
+use crate::leaves::leaves_lead_on;
 use crate::setting::{Departure, Setting};
 use pc_accepted::{Flaw, Rejection};
 use pc_cert::Entry;
@@ -38,14 +38,31 @@ fn pass(
         rank: entry.rank,
         tag: front_tag(&arrived.window),
     };
-    let Arranged { window, helds } = match arrange(alloc, setting.table, entry.steps.as_slice(), arrived, row)? {
+    let Arranged { window, helds } = match arrange(
+        alloc,
+        setting.table,
+        entry.steps.as_slice(),
+        arrived,
+        row,
+    )? {
         Ok(arranged) => arranged,
         Err(flaw) => return Ok(Err(flaw)),
     };
-    let led = leaves_lead_on(alloc, setting, departure, row, &window, helds.as_slice(), arrivals)?;
+    let led = leaves_lead_on(
+        alloc,
+        setting,
+        departure,
+        row,
+        &window,
+        helds.as_slice(),
+        arrivals,
+    )?;
     match led {
         Ok(()) => Ok(Ok(())),
-        Err(LeafRefusal { leaf, why }) => Ok(Err(Flaw::Leaf { leaf, why })),
+        Err(refusal) => Ok(Err(Flaw::Leaf {
+            leaf: refusal.leaf,
+            why: refusal.why,
+        })),
     }
 }
 
@@ -62,7 +79,10 @@ pub(crate) fn all_pass(
     let mut number = 0;
     for entry in setting.entries {
         if let Err(flaw) = pass(alloc, setting, number, entry, arrivals)? {
-            return Ok(Err(Rejection { entry: number, flaw }));
+            return Ok(Err(Rejection {
+                entry: number,
+                flaw,
+            }));
         }
         number += 1;
     }

@@ -7,7 +7,11 @@ ghost use Rattle.pc_checking.specs.models.Stored.{IsSetting};
 use pc_cert::Entry;
 use pc_machine::Code;
 use pc_table::RegionTable;
+use pc_word::Seq;
 use std::alloc::{AllocError, Global};
+
+/// By row the number of an entry.
+type EntryNumberList = Seq<Option<u32>>;
 
 /// What stays the same while entries are gone through: the table, the code, the entries, and by row
 /// the number of the first entry that speaks of it.
@@ -37,10 +41,10 @@ pub(crate) fn entry_of(setting: &Setting, row: u32) -> Option<u32>
 }
 
 /// By row no number of an entry.
-fn no_entries(alloc: Global, rows: usize) -> Result<Vec<Option<u32>>, AllocError>
-    ensures { IfOk result (λ firsts. firsts.items ≡ replicate rows None) }
+fn no_entries(alloc: Global, rows: usize) -> Result<EntryNumberList, AllocError>
+    ensures { IfOk result (λ firsts. firsts ≡ replicate rows None) }
 {
-    let mut firsts = Vec::new(alloc);
+    let mut firsts = EntryNumberList::new(alloc);
     for _ in 0..rows {
         firsts.push(None)?;
     }
@@ -49,27 +53,27 @@ fn no_entries(alloc: Global, rows: usize) -> Result<Vec<Option<u32>>, AllocError
 
 /// Puts the number of an entry at the row of which it speaks, if there is such a row.
 #[tactic(auto, using(crate::proofs::FirstEntries::put_nowhere))]
-fn put_number(firsts: &mut [Option<u32>], row: u32, number: u32)
+fn put_number(firsts: &mut EntryNumberList, row: u32, number: u32)
     ensures { firsts.new ≡ slice_set firsts.old row (Some number) }
 {
     let row = row as usize;
     if row >= firsts.len() {
         return;
     }
-    firsts[row] = Some(number);
+    firsts.set(row, Some(number));
 }
 
 /// By row the number of the first entry that speaks of it, for so many rows. It takes time in proportion to the entries
 /// and the rows.
-#[tactic(auto, using(crate::proofs::FirstEntries::telling))]
+#[tactic(auto, using(crate::proofs::FirstEntries::told_all))]
 pub(crate) fn first_entries(
     alloc: Global,
     entries: &[Entry],
     rows: usize,
-) -> Result<Vec<Option<u32>>, AllocError>
+) -> Result<EntryNumberList, AllocError>
     requires { length entries.now < 2 ^ 32 }
-    ensures as_many { IfOk result (λ firsts. length firsts.items ≡ rows) }
-    ensures firsts { IfOk result (λ firsts. AreFirst entries.now firsts.items) }
+    ensures as_many { IfOk result (λ firsts. length firsts ≡ rows) }
+    ensures firsts { IfOk result (λ firsts. AreFirst entries.now firsts) }
 {
     let mut firsts = no_entries(alloc, rows)?;
     let mut number = entries.len();

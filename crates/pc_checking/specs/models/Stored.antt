@@ -1,9 +1,12 @@
 -- What is gone through, and what has arrived, as they lie in memory.
 use Rattle.std.specs.Prelude.{◌≡◌, ℕ, ◌<◌, ◌^◌, List, length, map, Option, Some, None, Result, Ok, Err, slice_get}
+use Rattle.pc_word.specs.declared.item.Limits.{Limits}
 use Rattle.pc_table.specs.Table.{Table}
 use Rattle.pc_table.specs.StoredTable.{table_of}
 use Rattle.pc_machine.specs.MachineCode.{CodeRow, code_of}
 use Rattle.pc_machine.specs.WellFormed.{WellFormed, IsRow}
+use Rattle.pc_window.specs.declared.tree.WindowTree.{WindowTree}
+use Rattle.pc_window.specs.declared.window.Window.{Window as StoredWindow}
 use Rattle.pc_window.specs.StoredWindow.{window_in}
 use Rattle.pc_matching.specs.Facts.{facts_of}
 use Rattle.pc_settling.specs.Stored.{IsBegun}
@@ -29,6 +32,12 @@ some_arrival_in (Some arrived) = Some (arrival_in arrived)
 -- for each entry
 abbrev pub arrivals_in : List (Option stored_arrival.FirstArrival) → Arrivals
 arrivals_in arrivals = map some_arrival_in arrivals
+
+-- ---- what is left
+
+-- a window over a tree that stands behind a leaf of another, with its names, under these limits
+abbrev pub left_window : StoredWindow → Limits → WindowTree → StoredWindow
+left_window arranged limits rest = record { tree = rest; names = arranged.names; limits = limits; inside = arranged.inside }
 
 -- ---- what is gone through
 

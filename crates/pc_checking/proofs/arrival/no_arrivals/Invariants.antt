@@ -5,4 +5,4 @@ use Rattle.pc_checking.proofs.arrival.no_arrivals.Given as goal
 
 -- nothing at the entries so far
 abbrev pub invariant-loop-entry : goal.invariant-loop-entry
-invariant-loop-entry l = arrivals_in l.arrivals.items ≡ no_arrivals (take l.entry-index l.entries)
+invariant-loop-entry l = arrivals_in l.arrivals.items ≡ no_arrivals (take l._entry-index l.entries)

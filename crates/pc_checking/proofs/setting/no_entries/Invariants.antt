@@ -3,4 +3,4 @@ use Rattle.pc_checking.proofs.setting.no_entries.Given as goal
 
 -- none so far
 abbrev pub invariant-loop : goal.invariant-loop
-invariant-loop l = l.firsts.items ≡ replicate l.counter None
+invariant-loop l = l.firsts ≡ replicate l.counter None
