@@ -1,0 +1,150 @@
+//! What is proposed for an object.
+ghost use Rattle.std.specs.Prelude.{◌≡◌, true};
+ghost use Rattle.pc_word.specs.Ranges.{AreLimits};
+ghost use Rattle.pc_proposing.specs.models.Leaving.{AllLeft};
+
+use crate::arriving::arrive_at_start;
+use crate::going::go_on;
+use crate::liveness::live_registers;
+use crate::ranks::ranks_of;
+use crate::stands::{Setting, Stand, Stands};
+use pc_cert::{Certificate, Entry, EntryList, FactList, StepList};
+use pc_object::{Note, Object};
+use pc_table::RegionTable;
+use pc_word::{Limits, MOST_MEM, MOST_OPS, MOST_TESTS, OutOfMemory};
+use std::alloc::{AllocError, Global};
+
+/// How often stands are gone on from, for each row.
+const MOST_TURNS: usize = 64;
+
+/// To how many iterations the windows of pipelined loops are unwound, in the order in which it is tried.
+const NUMBERS: [u8; 3] = [0, 4, 2];
+
+/// For each loop whether it is pipelined, by the notes.
+fn pipelined(alloc: Global, table: &RegionTable, notes: &[Note]) -> Result<Vec<bool>, AllocError> {
+    let loops = table.loops.as_slice();
+    let mut found = vec![in alloc; false; loops.len()]?;
+    let mut next = 0usize;
+    for at in 0..loops.len() {
+        if let Some(note) = notes.get(next) {
+            if note.line == loops[at].line {
+                found[at] = note.choice == 0;
+                next += 1;
+            }
+        }
+    }
+    Ok(found)
+}
+
+/// The first stand that waits.
+fn first_waiting(stands: &[Stand]) -> Option<usize> {
+    for at in 0..stands.len() {
+        if stands[at].waits {
+            return Some(at);
+        }
+    }
+    None
+}
+
+/// Goes on from each stand that waits, until none does. Says whether it came so far.
+fn go_through(alloc: Global, setting: &Setting, stands: &mut Stands) -> Result<bool, OutOfMemory>
+    requires { AllLeft stands.old }
+{
+    if !arrive_at_start(alloc, setting, stands)? {
+        return Ok(false);
+    }
+    let most = setting.code.rows.len().saturating_mul(MOST_TURNS);
+    for _ in 0..most {
+        let Some(number) = first_waiting(stands.all.as_slice()) else {
+            return Ok(true);
+        };
+        if !go_on(alloc, setting, stands, number)? {
+            return Ok(false);
+        }
+    }
+    Ok(false)
+}
+
+/// The certificate of the stands.
+fn certificate_of(alloc: Global, stands: &[Stand]) -> Result<Certificate, OutOfMemory> {
+    let ranks = ranks_of(alloc, stands)?;
+    let mut entries = EntryList::new(alloc);
+    for at in 0..stands.len() {
+        let stand = &stands[at];
+        let rank = match ranks.get(at) {
+            None => 0,
+            Some(rank) => *rank,
+        };
+        entries.push(Entry {
+            row: stand.row,
+            rank,
+            facts: FactList::from_slice(alloc, stand.facts.as_slice())?,
+            opening: stand.opening,
+            steps: StepList::from_slice(alloc, stand.steps.as_slice())?,
+        })?;
+    }
+    Ok(Certificate { entries })
+}
+
+/// The certificate of a code, where windows of pipelined loops are unwound to a number of iterations; `None` where some
+/// row cannot be gone on from.
+fn proposed(alloc: Global, setting: &Setting) -> Result<Option<Certificate>, OutOfMemory> {
+    let mut stands = Stands {
+        all: Vec::new(alloc),
+        lefts: Vec::new(alloc),
+        of_row: vec![in alloc; None; setting.code.rows.len()]?,
+    };
+    if !go_through(alloc, setting, &mut stands)? {
+        return Ok(None);
+    }
+    let certificate = certificate_of(alloc, stands.all.as_slice())?;
+    Ok(Some(certificate))
+}
+
+/// Whether limits are those of a machine.
+fn are_limits(limits: Limits) -> bool
+    ensures { result ≡ true → AreLimits limits }
+{
+    if limits.ops < 1 || limits.ops > MOST_OPS {
+        return false;
+    }
+    if limits.tests < 1 || limits.tests > MOST_TESTS {
+        return false;
+    }
+    limits.mem >= 1 && limits.mem <= MOST_MEM
+}
+
+/// A certificate for the code of an object, from the table of regions that it is to do. It has no entries where none is
+/// found. Nothing is claimed of it; a checker decides.
+///
+/// The rows are gone through as they are reached, each at most 64 times, and so at most three times over. For each it
+/// takes time in proportion to its items, times those of its window and to what holds where it begins.
+pub fn propose(
+    alloc: Global,
+    table: &RegionTable,
+    object: &Object,
+) -> Result<Certificate, OutOfMemory> {
+    let code = &object.code;
+    if !are_limits(code.limits) {
+        return Ok(Certificate {
+            entries: EntryList::new(alloc),
+        });
+    }
+    let live = live_registers(alloc, code.rows.as_slice())?;
+    let pipelined = pipelined(alloc, table, object.notes.as_slice())?;
+    for number in NUMBERS {
+        let setting = Setting {
+            table,
+            code,
+            live: live.as_slice(),
+            pipelined: pipelined.as_slice(),
+            number,
+        };
+        if let Some(certificate) = proposed(alloc, &setting)? {
+            return Ok(certificate);
+        }
+    }
+    Ok(Certificate {
+        entries: EntryList::new(alloc),
+    })
+}
