@@ -1,12 +1,13 @@
 //! Certificates that are proposed for codes: row by row the steps by which the window that is left becomes one whose
-//! front the row does, and the facts that hold there. Nothing is claimed of what is proposed; whether it shows that a
-//! code does what its table does is for a checker to say.
+//! front the row does, and the facts that hold there. Nothing is claimed of what is proposed but that it can be
+//! written; whether it shows that a code does what its table does is for a checker to say.
 #![tactic(auto)]
 
 mod ahead;
 mod arriving;
 mod choosing;
 mod copying;
+mod drafts;
 mod facts;
 mod filling;
 mod going;

@@ -1,9 +1,12 @@
 //! What is proposed for an object.
-ghost use Rattle.std.specs.Prelude.{◌≡◌, true};
+ghost use Rattle.std.specs.Prelude.{◌≡◌, true, IfOk, IfSome};
 ghost use Rattle.pc_word.specs.Ranges.{AreLimits};
+ghost use Rattle.pc_cert.specs.CertificateText.{IsCertificate};
+ghost use Rattle.pc_proposing.specs.models.Drafts.{IsDraft};
 ghost use Rattle.pc_proposing.specs.models.Leaving.{AllLeft};
 
 use crate::arriving::arrive_at_start;
+use crate::drafts::{Draft, add_entry, no_entries};
 use crate::going::go_on;
 use crate::liveness::live_registers;
 use crate::ranks::ranks_of;
@@ -65,30 +68,44 @@ fn go_through(alloc: Global, setting: &Setting, stands: &mut Stands) -> Result<b
     Ok(false)
 }
 
-/// The certificate of the stands.
-fn certificate_of(alloc: Global, stands: &[Stand]) -> Result<Certificate, OutOfMemory> {
+/// The entry of a stand with this rank.
+fn entry_of(alloc: Global, stand: &Stand, rank: u32) -> Result<Entry, AllocError> {
+    let facts = FactList::from_slice(alloc, stand.facts.as_slice())?;
+    let steps = StepList::from_slice(alloc, stand.steps.as_slice())?;
+    Ok(Entry {
+        row: stand.row,
+        rank,
+        facts,
+        opening: stand.opening,
+        steps,
+    })
+}
+
+/// The entries of the stands, if they may be written.
+fn entries_of(alloc: Global, stands: &[Stand]) -> Result<Option<Draft>, AllocError>
+    ensures { IfOk result (λ draft. IfSome draft IsDraft) }
+{
     let ranks = ranks_of(alloc, stands)?;
-    let mut entries = EntryList::new(alloc);
+    let mut draft = no_entries(alloc);
     for at in 0..stands.len() {
-        let stand = &stands[at];
         let rank = match ranks.get(at) {
             None => 0,
             Some(rank) => *rank,
         };
-        entries.push(Entry {
-            row: stand.row,
-            rank,
-            facts: FactList::from_slice(alloc, stand.facts.as_slice())?,
-            opening: stand.opening,
-            steps: StepList::from_slice(alloc, stand.steps.as_slice())?,
-        })?;
+        let entry = entry_of(alloc, &stands[at], rank)?;
+        if !add_entry(&mut draft, entry)? {
+            return Ok(None);
+        }
     }
-    Ok(Certificate { entries })
+    Ok(Some(draft))
 }
 
 /// The certificate of a code, where windows of pipelined loops are unwound to a number of iterations; `None` where some
-/// row cannot be gone on from.
-fn proposed(alloc: Global, setting: &Setting) -> Result<Option<Certificate>, OutOfMemory> {
+/// row cannot be gone on from, or the entries are too many to be written.
+#[tactic(auto, using(crate::proofs::Writable::certificates))]
+fn proposed(alloc: Global, setting: &Setting) -> Result<Option<Certificate>, OutOfMemory>
+    ensures { IfOk result (λ certificate. IfSome certificate (λ it. IsCertificate it.entries)) }
+{
     let mut stands = Stands {
         all: Vec::new(alloc),
         lefts: Vec::new(alloc),
@@ -97,8 +114,10 @@ fn proposed(alloc: Global, setting: &Setting) -> Result<Option<Certificate>, Out
     if !go_through(alloc, setting, &mut stands)? {
         return Ok(None);
     }
-    let certificate = certificate_of(alloc, stands.all.as_slice())?;
-    Ok(Some(certificate))
+    match entries_of(alloc, stands.all.as_slice())? {
+        None => Ok(None),
+        Some(Draft { entries, .. }) => Ok(Some(Certificate { entries })),
+    }
 }
 
 /// Whether limits are those of a machine.
@@ -115,15 +134,19 @@ fn are_limits(limits: Limits) -> bool
 }
 
 /// A certificate for the code of an object, from the table of regions that it is to do. It has no entries where none is
-/// found. Nothing is claimed of it; a checker decides.
+/// found. Nothing is claimed of it but that it can be written; a checker decides.
 ///
 /// The rows are gone through as they are reached, each at most 64 times, and so at most three times over. For each it
 /// takes time in proportion to its items, times those of its window and to what holds where it begins.
+#[tactic(auto, using(crate::proofs::Writable::certificates))]
 pub fn propose(
     alloc: Global,
     table: &RegionTable,
     object: &Object,
-) -> Result<Certificate, OutOfMemory> {
+) -> Result<Certificate, OutOfMemory>
+    // It can be written.
+    ensures { IfOk result (λ certificate. IsCertificate certificate.entries) }
+{
     let code = &object.code;
     if !are_limits(code.limits) {
         return Ok(Certificate {
