@@ -1,10 +1,11 @@
 -- Windows that are arranged, in memory, and their fronts as rows.
-use Rattle.std.proofs.Common.{◌≡◌, ℕ, ◌≤◌, ◌^◌, List, [], ◌∷◌, ◌++◌, Option, Some, None, refl, sym, ◌∙◌, ap, subst}
+use Rattle.std.proofs.Common.{◌≡◌, ℕ, ◌≤◌, ◌^◌, List, [], ◌∷◌, ◌++◌, Option, Some, None, refl, sym, ◌∙◌, ap, subst, length}
 use Rattle.std.specs.Prelude.{if◌then◌else◌, Ok, Err}
+use Rattle.std.proofs.lemmas.List.{length-map}
 use Rattle.pc_word.specs.declared.item.Item.{Item}
 use Rattle.pc_word.specs.declared.item.Operand.{Operand}
 use Rattle.pc_word.specs.declared.row_tree.RowTree.{RowTree}
-use Rattle.pc_word.specs.Row.{Row, Then, Either, At_leaf}
+use Rattle.pc_word.specs.Row.{Row, Then, Either, At_leaf, leaves_of}
 use Rattle.pc_word.specs.StoredRow.{row_in}
 use Rattle.pc_table.specs.Table.{Table}
 use Rattle.pc_machine.specs.MachineCode.{CodeRow}
@@ -17,11 +18,12 @@ use Rattle.pc_window.specs.StoredWindow.{front_in, window_in}
 use Rattle.pc_window.proofs.WindowsStored.{whole_in}
 use Rattle.pc_certified.specs.Facts.{Fact}
 use Rattle.pc_matching.specs.declared.fact.Fact as stored_fact
-use Rattle.pc_matching.specs.Facts.{helds_of}
+use Rattle.pc_matching.specs.Facts.{facts_of, helds_of}
 use Rattle.pc_matching.specs.Matching.{operands_match}
 use Rattle.pc_matching.specs.RowMatch.{first_items, below_items, both_sides, test_match, leaf_match, match_below, row_match}
+use Rattle.pc_matching.proofs.FoundRows.{each_leaf_has_facts}
 use Rattle.pc_arranging.specs.Arranging.{Arranges}
-use Rattle.pc_arranging.specs.CanArrange.{CanArrange, IsArrangedIn}
+use Rattle.pc_arranging.specs.CanArrange.{CanArrange}
 use Rattle.pc_settling.specs.Stored.{IsBegun}
 use Rattle.pc_accepted.specs.declared.flaw.Flaw.TheVariants.{IllegalStep, OtherRow}
 use Rattle.pc_accepted.specs.Arrivals.{FirstArrival}
@@ -83,6 +85,19 @@ pub row_found : (facts : List Fact) (row : CodeRow) (stored : RowTree (Unit {0})
 row_found facts row stored front found same is =
     same_match (λ tree. tree) (λ rest. tt) facts [] [] row front ∙ ap (λ (r : Row (Unit {0})). row_match facts row r) (sym same) ∙ sym is
 
+-- each leaf of such a row has facts, and each of the front
+pub leaves_have : (facts : List Fact) (row : CodeRow) (stored : RowTree (Unit {0})) (helds : List (List stored_fact.Fact))
+    → Some (helds_of helds) ≡ row_match facts row (row_in (λ leaf. leaf) stored) → length helds ≡ length (leaves_of row)
+leaves_have facts row stored helds found =
+    sym (length-map helds facts_of) ∙ (each_leaf_has_facts facts row (row_in (λ leaf. leaf) stored) (helds_of helds) (sym found)).0
+
+pub rests_have : (facts : List Fact) (row : CodeRow) (stored : RowTree (Unit {0})) (front : Front) (helds : List (List stored_fact.Fact))
+    → row_in (λ leaf. leaf) stored ≡ front_row (λ rest. tt) front → Some (helds_of helds) ≡ row_match facts row (row_in (λ leaf. leaf) stored)
+    → length helds ≡ length (leaves_of (front_row (λ tree. tree) front))
+rests_have facts row stored front helds same found =
+    sym (length-map helds facts_of)
+    ∙ (each_leaf_has_facts facts row (front_row (λ tree. tree) front) (helds_of helds) (row_found facts row stored front (Some (helds_of helds)) same found)).1
+
 -- ---- what comes of arranging
 
 module _ (table : Table) (steps : List Step) (arrived : FirstArrival) (row : CodeRow) (copy : StoredWindow) (same : window_in copy ≡ arrived.window) where
@@ -97,8 +112,8 @@ module _ (table : Table) (steps : List Step) (arrived : FirstArrival) (row : Cod
     pub arranged_other : None ≡ row_match arrived.facts row (row_in (λ leaf. leaf) stored) → ArrangesFor table steps arrived row (Err OtherRow)
     arranged_other none = is_other arranges_it (row_found arrived.facts row stored (front_in later.tree) None front_is none)
 
-    pub arranged_so : (helds : List (List stored_fact.Fact)) → Some (helds_of helds) ≡ row_match arrived.facts row (row_in (λ leaf. leaf) stored) → IsArrangedIn table later
+    pub arranged_so : (helds : List (List stored_fact.Fact)) → Some (helds_of helds) ≡ row_match arrived.facts row (row_in (λ leaf. leaf) stored)
         → ArrangesFor table steps arrived row (Ok (let it : stored_arranged.Arranged = record { window = later; helds = helds } in it))
-    arranged_so helds found it = is_arranged arranges_it (row_found arrived.facts row stored (front_in later.tree) (Some (helds_of helds)) front_is found) it
+    arranged_so helds found = is_arranged arranges_it (row_found arrived.facts row stored (front_in later.tree) (Some (helds_of helds)) front_is found)
 
-pub ruleset arranging = (arranged_not, arranged_other, arranged_so)
+pub ruleset arranging = (leaves_have, rests_have, arranged_not, arranged_other, arranged_so)

@@ -1,14 +1,14 @@
 -- What is left at the leaves of a row, in memory.
 use Rattle.std.proofs.Common.{◌≡◌, ◌↔◌, ◌⊎◌, inl, inr, ℕ, zero, suc, ◌+◌, ◌<◌, ◌≤◌, ◌^◌, Bool, true, false, List, [], ◌∷◌, ◌++◌, length, map, get_or, drop, Option, Some, None, Result, Ok, Err, refl, sym, ◌∙◌, ap, subst, arith, length-append, drop_of_length-le}
-use Rattle.std.specs.Prelude.{IfOk, MatchResult, Contains, slice_get, reverse}
+use Rattle.std.specs.Prelude.{IfOk, MatchResult, slice_get, reverse}
 use Rattle.std.specs.List.{AllByRecursion}
 use Rattle.std.proofs.lemmas.List.{length-map, length-reverse, reverse-append, reverse-reverse}
-use Rattle.std.proofs.lemmas.List.Elements.{Contains-append_cases}
 use Rattle.std.proofs.lemmas.Option.{slice_get-get_or}
 use Rattle.pc_word.specs.declared.item.Limits.{Limits}
 use Rattle.pc_word.specs.declared.item.TrapKind.{TrapKind}
 use Rattle.pc_word.specs.Ranges.{AreLimits}
 use Rattle.pc_word.specs.Row.{Row, Then, Either, At_leaf, leaves_of, tests_of}
+use Rattle.pc_word.proofs.Lists.{all_both}
 use Rattle.pc_word.proofs.Places.{drop_at, map_at}
 use Rattle.pc_table.specs.Table.{Table}
 use Rattle.pc_machine.specs.declared.tree.Leaf.{Leaf}
@@ -19,12 +19,14 @@ use Rattle.pc_window.specs.declared.names.NameTable.{NameTable}
 use Rattle.pc_window.specs.declared.tree.WindowTree.{WindowTree}
 use Rattle.pc_window.specs.declared.window.Window.{Window as StoredWindow}
 use Rattle.pc_window.specs.Tree.{Tree, Front, Issued, Split, Unfinished, whole, tree_size}
-use Rattle.pc_window.specs.WindowRun.{Window}
-use Rattle.pc_window.specs.Steps.{with_tree, front_row, IsProper}
+use Rattle.pc_window.specs.WindowRun.{Window, supply_of}
+use Rattle.pc_window.specs.Names.{uses, and_dest, Scoped}
+use Rattle.pc_window.specs.Opening.{TreeBelow, FormsBelow}
+use Rattle.pc_window.specs.Steps.{with_tree, front_row, Positive, IsProper}
 use Rattle.pc_window.specs.StoredWindow.{tree_in, front_in, supply_in, window_in, InNodes}
+use Rattle.pc_window.proofs.Proper.{becomes_proper}
 use Rattle.pc_window.proofs.WindowsStored.{single_window}
 use Rattle.pc_certified.specs.Facts.{Fact}
-use Rattle.pc_certified.proofs.Listed.{only}
 use Rattle.pc_matching.specs.declared.fact.Fact as stored_fact
 use Rattle.pc_matching.specs.Facts.{facts_of, helds_of}
 use Rattle.pc_arranging.specs.CanArrange.{IsArrangedIn}
@@ -37,7 +39,6 @@ use Rattle.pc_accepted.specs.declared.flaw.LeafFlaw.TheVariants.{OtherEnd}
 use Rattle.pc_accepted.specs.Accepted.{with_limits}
 use Rattle.pc_accepted.specs.Arrivals.{Arrivals}
 use Rattle.pc_accepted.specs.Leading.{Setting, Departure, LeafRefusal, Leads, LeadsOn, IsEnd, ends, ends_otherwise, goes_to, AllLeadOn, all_lead_on, one_leads_on, one_is_refused}
-use Rattle.pc_accepted.proofs.Rests.{contains_first, contains_later, left_proper}
 use Rattle.pc_checking.specs.models.Stored.{left_window, outcome_of}
 use Rattle.pc_checking.specs.models.Going.{LeavesGoOn}
 
@@ -65,42 +66,52 @@ settled_rest view arranged names limits rest facts held (Ok left) same facts_are
     is ∙ (λ i. settled (rest_window arranged names limits rest same it.nodes i) (facts_of (facts_are i)))
 settled_rest view arranged names limits rest facts held (Err error) same facts_are it is = tt
 
-rest_size : (front : Front) (rest : Tree) → Contains (leaves_of (front_row (λ tree. tree) front)) rest → tree_size rest ≤ tree_size (whole front)
-rest_size (Issued tag origin item front) rest is = let less = rest_size front rest is in omega (arith, less)
-rest_size (Split tag origin on p q) rest is =
-    elim (Contains-append_cases (leaves_of (front_row (λ tree. tree) p)) (leaves_of (front_row (λ tree. tree) q)) rest is) [
-      | inl there ↦ let less = rest_size p rest there in omega (arith, less)
-      | inr there ↦ let less = rest_size q rest there in omega (arith, less)
-    ]
-rest_size (Unfinished tree) rest is = only (λ (t : Tree). tree_size t ≤ tree_size tree) tree (omega arith) rest is
+-- what stands behind the leaves of a front is proper, under any limits with room
+module _ (w : Window) (limits : Limits) (room : Positive limits) (forms_below : FormsBelow (supply_of w)) where
+  rests_proper : (front : Front) (known : ℕ → Bool) → TreeBelow w.next (whole front) → Scoped known (whole front)
+      → AllByRecursion (λ (rest : Tree). IsProper (with_tree (with_limits limits w) rest)) (leaves_of (front_row (λ tree. tree) front))
+  rests_proper (Issued tag origin item front) known below scoped = rests_proper front (and_dest known item) below.1 scoped.2
+  rests_proper (Split tag origin on p q) known below scoped =
+      all_both (λ (rest : Tree). IsProper (with_tree (with_limits limits w) rest)) (leaves_of (front_row (λ tree. tree) p)) (leaves_of (front_row (λ tree. tree) q))
+      (rests_proper p known below.1 scoped.1) (rests_proper q known below.2 scoped.2)
+  rests_proper (Unfinished tree) known below scoped = (becomes_proper tree (supply_of w) limits w.inside known below forms_below room scoped, tt)
 
-module _ (table : Table) (arranged : StoredWindow) (limits : Limits) (it : IsArrangedIn table arranged) (within : AreLimits limits) where
-  -- what stands behind a leaf of an arranged window is left to do, under limits of the machine
-  rest_left : (rest : WindowTree) → InNodes true rest → Contains (leaves_of (front_row (λ tree. tree) (front_in arranged.tree))) (tree_in rest)
-      → IsLeft (left_window arranged limits rest)
-  rest_left rest nodes is =
-      let size = it.can.small.size in
-      let less = rest_size (front_in arranged.tree) (tree_in rest) is in
-      record {
-        proper = subst IsProper (sym (rest_window arranged arranged.names limits rest refl nodes))
-            (left_proper (window_in arranged) limits (record { ops = within.ops.0; tests = within.tests.0; mem = within.mem.0 }) it.can.proper (tree_in rest) is);
-        nodes = nodes;
-        size = omega (arith, size, less);
-      }
+-- and no larger than all of it
+rests_small : (most : ℕ) (front : Front) → tree_size (whole front) ≤ most
+    → AllByRecursion (λ (rest : Tree). tree_size rest ≤ most) (leaves_of (front_row (λ tree. tree) front))
+rests_small most (Issued tag origin item front) small = rests_small most front (omega (arith, small))
+rests_small most (Split tag origin on p q) small =
+    all_both (λ (rest : Tree). tree_size rest ≤ most) (leaves_of (front_row (λ tree. tree) p)) (leaves_of (front_row (λ tree. tree) q))
+    (rests_small most p (omega (arith, small))) (rests_small most q (omega (arith, small)))
+rests_small most (Unfinished tree) small = (small, tt)
 
-  -- so is each of them
+module _ (arranged : StoredWindow) (limits : Limits) where
   each_left : (rests : List WindowTree) → AllByRecursion (InNodes true) rests
-      → ((rest : Tree) → Contains (map tree_in rests) rest → Contains (leaves_of (front_row (λ tree. tree) (front_in arranged.tree))) rest)
+      → AllByRecursion (λ (rest : Tree). IsProper (with_tree (with_limits limits (window_in arranged)) rest)) (map tree_in rests)
+      → AllByRecursion (λ (rest : Tree). tree_size rest ≤ 4096) (map tree_in rests)
       → AllByRecursion (λ (rest : WindowTree). IsLeft (left_window arranged limits rest)) rests
-  each_left [] nodes are = tt
-  each_left (rest ∷ rests) nodes are = (
-    rest_left rest nodes.0 (are (tree_in rest) (contains_first (tree_in rest) (map tree_in rests))),
-    each_left rests nodes.1 (λ other there. are other (contains_later (tree_in rest) (map tree_in rests) other there)),
+  each_left [] nodes proper small = tt
+  each_left (rest ∷ rests) nodes proper small = (
+    record {
+      proper = subst IsProper (sym (rest_window arranged arranged.names limits rest refl nodes.0)) proper.0;
+      nodes = nodes.0;
+      size = small.0;
+    },
+    each_left rests nodes.1 proper.1 small.1,
   )
 
-  pub all_left : (rests : List WindowTree) → AllByRecursion (InNodes true) rests → map tree_in rests ≡ leaves_of (front_row (λ tree. tree) (front_in arranged.tree))
+  -- so each of them is left to do, under limits of the machine
+  pub all_left : (table : Table) → IsArrangedIn table arranged → AreLimits limits → (rests : List WindowTree) → AllByRecursion (InNodes true) rests
+      → map tree_in rests ≡ leaves_of (front_row (λ tree. tree) (front_in arranged.tree))
       → AllByRecursion (λ (rest : WindowTree). IsLeft (left_window arranged limits rest)) rests
-  all_left rests nodes are = each_left rests nodes (λ rest there. subst (λ (list : List Tree). Contains list rest) are there)
+  all_left table it within rests nodes are =
+      let room : Positive limits = record { ops = within.ops.0; tests = within.tests.0; mem = within.mem.0 } in
+      let w = window_in arranged in
+      let proper = it.can.proper in
+      each_left rests nodes
+      (subst (AllByRecursion (λ (rest : Tree). IsProper (with_tree (with_limits limits w) rest))) (sym are)
+      (rests_proper w limits room proper.forms_below w.front (uses (whole w.front)) proper.names_below proper.window.scoped))
+      (subst (AllByRecursion (λ (rest : Tree). tree_size rest ≤ 4096)) (sym are) (rests_small 4096 w.front it.can.small.size))
 
 -- ---- where it leads
 

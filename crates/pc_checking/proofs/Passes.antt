@@ -8,6 +8,7 @@ use Rattle.pc_word.specs.declared.row_tree.RowTree.{RowTree}
 use Rattle.pc_word.proofs.Lists.{all_at}
 use Rattle.pc_word.proofs.Places.{map_at}
 use Rattle.pc_table.specs.Table.{Table}
+use Rattle.pc_table.specs.StoredTable.{table_of}
 use Rattle.pc_machine.specs.declared.tree.Leaf.{Leaf}
 use Rattle.pc_machine.specs.MachineCode.{CodeRow, row_of, code_of}
 use Rattle.pc_machine.specs.WellFormed.{IsRow}
@@ -18,9 +19,8 @@ use Rattle.pc_window.specs.Unwinding.{front_tag}
 use Rattle.pc_window.specs.Steps.{front_row}
 use Rattle.pc_window.specs.StoredWindow.{window_in}
 use Rattle.pc_matching.specs.declared.fact.Fact as stored_fact
-use Rattle.pc_matching.specs.Facts.{facts_of, helds_of}
-use Rattle.pc_matching.proofs.FoundRows.{each_leaf_has_facts}
-use Rattle.pc_arranging.specs.CanArrange.{IsArrangedIn}
+use Rattle.pc_matching.specs.Facts.{helds_of}
+use Rattle.pc_settling.specs.Stored.{IsBegun}
 use Rattle.pc_accepted.specs.declared.flaw.LeafFlaw.{LeafFlaw}
 use Rattle.pc_accepted.specs.declared.flaw.Flaw.{Flaw}
 use Rattle.pc_accepted.specs.declared.flaw.Flaw.TheVariants as flaw
@@ -29,9 +29,11 @@ use Rattle.pc_accepted.specs.Arrivals.{Arrivals, FirstArrival}
 use Rattle.pc_accepted.specs.Leading.{Setting, AllLeadOn}
 use Rattle.pc_accepted.specs.Accepted.{with_limits, LeavesLeadOn, IsDone, Passes, not_reached, has_no_row, not_arranged, not_matched, leaf_refused, passes_on, AllPass, all_passed, one_passed, one_rejected}
 use Rattle.pc_checking.specs.declared.arranged.Arranged as stored_arranged
+use Rattle.pc_checking.specs.declared.arrival.FirstArrival as stored_arrival
 use Rattle.pc_checking.specs.declared.leaves.LeafRefusal as stored_refusal
 use Rattle.pc_checking.specs.declared.setting.Setting as stored_setting
-use Rattle.pc_checking.specs.models.Stored.{outcome_of, leaves_outcome, IsSetting, IsRowOf}
+use Rattle.pc_checking.specs.models.Stored.{arrivals_in, setting_in, outcome_of, leaves_outcome, IsSetting, IsRowOf, AreKept}
+use Rattle.pc_checking.proofs.Arrived.{was_at, was_so}
 use Rattle.pc_checking.specs.models.Going.{ArrangesFor, is_illegal, is_other, is_arranged, EntriesGoOn}
 
 -- ---- one entry
@@ -50,12 +52,25 @@ row_keeps s number row is there =
     subst (λ (n : ℕ). IsRow s.code.now.limits s.code.now.registers (length s.code.now.arrays) n (row_of row)) (length-map s.code.now.rows row_of)
     (all_at (IsRow s.code.now.limits s.code.now.registers (length s.code.now.arrays) (length (map row_of s.code.now.rows))) (map row_of s.code.now.rows) number (row_of row) is.formed.rows (row_there s.code.now.rows number row there))
 
-pub pass_nowhere : (s : Setting) (number : ℕ) (entry : Entry) (arrivals : Arrivals) → slice_get arrivals number ≡ Some None → Passes s number entry arrivals (Err flaw.Unreached)
-pass_nowhere s number entry arrivals was = not_reached was
+-- nothing has arrived at an entry that is read
+pub pass_nowhere : (s : Setting) (number : ℕ) (entry : Entry) (arrivals : List (Option stored_arrival.FirstArrival)) (default : Option stored_arrival.FirstArrival)
+    → number < length arrivals → get_or arrivals number default ≡ None → Passes s number entry (arrivals_in arrivals) (Err flaw.Unreached)
+pass_nowhere s number entry arrivals default within none = not_reached (was_so arrivals number default None within none)
 
-pub pass_no_row : (s : Setting) (number : ℕ) (entry : Entry) (arrivals : Arrivals) (arrived : FirstArrival) → slice_get arrivals number ≡ Some (Some arrived)
-    → slice_get s.code.rows entry.row ≡ None → Passes s number entry arrivals (Err flaw.NoRow)
-pass_no_row s number entry arrivals arrived was none = has_no_row was none
+-- or something has, with which the entry may begin; but its row is not there
+pub pass_no_row : (s : stored_setting.Setting) (number : ℕ) (entry : Entry) (arrivals : List (Option stored_arrival.FirstArrival))
+    (default : Option stored_arrival.FirstArrival) (arrived : stored_arrival.FirstArrival) → number < length arrivals → get_or arrivals number default ≡ Some arrived
+    → None ≡ slice_get s.code.now.rows entry.row → Passes (setting_in s) number entry (arrivals_in arrivals) (Err flaw.NoRow)
+pass_no_row s number entry arrivals default arrived within is none =
+    has_no_row (was_so arrivals number default (Some arrived) within is) (no_row s.code.now.rows entry.row none)
+
+pub begun_there : (s : stored_setting.Setting) (arrivals : List (Option stored_arrival.FirstArrival)) (number : ℕ) (default : Option stored_arrival.FirstArrival)
+    (arrived : stored_arrival.FirstArrival) → AreKept s arrivals → number < length s.entries.now → get_or arrivals number default ≡ Some arrived
+    → IsBegun (table_of s.table.now) arrived.window
+begun_there s arrivals number default arrived kept within is =
+    let many = kept.as_many in kept.begun number arrived (was_at arrivals number default (Some arrived) (omega (arith, many, within)) (sym is))
+
+pub ruleset passing = (pass_nowhere, pass_no_row)
 
 -- what has come of arranging
 pub arranged_so : (table : Table) (steps given : List Step) (arrived : FirstArrival) (row : CodeRow) (found outcome : Result stored_arranged.Arranged Flaw) → given ≡ steps
@@ -75,24 +90,7 @@ module _ (s : Setting) (number : ℕ) (entry : Entry) (arrivals : Arrivals) (arr
     is_done = by_cases so
       where
         by_cases : ArrangesFor s.table entry.steps arrived row (Ok arranged) → IsDone s entry arrived row (window_in arranged.window) (helds_of arranged.helds)
-        by_cases (is_arranged arranges does it) = record { there = there; arranges = arranges; does = does }
-
-    pub is_arranged_in : IsArrangedIn s.table arranged.window
-    is_arranged_in = by_cases so
-      where
-        by_cases : ArrangesFor s.table entry.steps arrived row (Ok arranged) → IsArrangedIn s.table arranged.window
-        by_cases (is_arranged arranges does it) = it
-
-    -- each leaf has facts
-    pub leaves_have : length arranged.helds ≡ length (leaves_of row)
-    leaves_have =
-        sym (length-map arranged.helds facts_of)
-        ∙ (each_leaf_has_facts arrived.facts row (front_row (λ tree. tree) (window_in arranged.window).front) (helds_of arranged.helds) is_done.does).0
-
-    pub rests_have : length arranged.helds ≡ length (leaves_of (front_row (λ tree. tree) (window_in arranged.window).front))
-    rests_have =
-        sym (length-map arranged.helds facts_of)
-        ∙ (each_leaf_has_facts arrived.facts row (front_row (λ tree. tree) (window_in arranged.window).front) (helds_of arranged.helds) is_done.does).1
+        by_cases (is_arranged arranges does) = record { there = there; arranges = arranges; does = does }
 
     module _ (tag : ℕ) (tag_is : tag ≡ front_tag (whole arrived.window.front)) (given : List (List stored_fact.Fact)) (given_is : given ≡ arranged.helds) (later : Arrivals)
         (led : Result (Unit {0}) stored_refusal.LeafRefusal)

@@ -1,7 +1,11 @@
 //! The window of an entry, arranged, whose front the entry's row does.
-ghost use Rattle.std.specs.Prelude.{◌≡◌, IfOk};
+ghost use Rattle.std.specs.Prelude.{◌≡◌, length, IfOk};
+ghost use Rattle.pc_word.specs.Row.{leaves_of};
 ghost use Rattle.pc_table.specs.StoredTable.{table_of};
 ghost use Rattle.pc_machine.specs.MachineCode.{row_of};
+ghost use Rattle.pc_window.specs.Steps.{front_row};
+ghost use Rattle.pc_window.specs.StoredWindow.{front_in};
+ghost use Rattle.pc_arranging.specs.CanArrange.{IsArrangedIn};
 ghost use Rattle.pc_settling.specs.Stored.{IsBegun};
 ghost use Rattle.pc_checking.specs.models.Going.{ArrangesFor};
 ghost use Rattle.pc_checking.specs.models.Stored.{arrival_in};
@@ -36,7 +40,10 @@ pub(crate) fn arrange(
     row: &Tree,
 ) -> Result<Result<Arranged, Flaw>, OutOfMemory>
     requires { IsBegun (table_of table.now) arrived.now.window }
-    ensures { IfOk result (λ outcome. ArrangesFor (table_of table.now) steps.now (arrival_in arrived.now) (row_of row.now) outcome) }
+    ensures arranges { IfOk result (λ outcome. ArrangesFor (table_of table.now) steps.now (arrival_in arrived.now) (row_of row.now) outcome) }
+    ensures arranged { IfOk result (λ outcome. IfOk outcome (λ it. IsArrangedIn (table_of table.now) it.window)) }
+    ensures leaves { IfOk result (λ outcome. IfOk outcome (λ it. length it.helds ≡ length (leaves_of (row_of row.now)))) }
+    ensures rests { IfOk result (λ outcome. IfOk outcome (λ it. length it.helds ≡ length (leaves_of (front_row (λ tree. tree) (front_in it.window.tree))))) }
 {
     let window = copy_window(alloc, &arrived.window)?;
     let Some(window) = do_steps(alloc, table, window, steps)? else {

@@ -15,6 +15,7 @@ use std::alloc::Global;
 
 /// An entry passes: something has arrived there, its steps arrange that, its row does what the front does, and the row's leaves lead
 /// on; or the first reason against it.
+#[tactic(auto, using(crate::proofs::Passes::passing))]
 fn pass(
     alloc: Global,
     setting: &Setting,

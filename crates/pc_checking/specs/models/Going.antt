@@ -13,7 +13,6 @@ use Rattle.pc_certified.specs.Facts.{Fact}
 use Rattle.pc_matching.specs.Facts.{helds_of}
 use Rattle.pc_matching.specs.RowMatch.{row_match}
 use Rattle.pc_arranging.specs.Arranging.{Arranges}
-use Rattle.pc_arranging.specs.CanArrange.{IsArrangedIn}
 use Rattle.pc_settling.specs.Remaining.{Remaining}
 use Rattle.pc_settling.specs.Begun.{Begun, BeginsWith}
 use Rattle.pc_settling.specs.Arrives.{Arrives}
@@ -48,7 +47,7 @@ pub data ArrangesFor (table : Table) (steps : List Step) (arrived : FirstArrival
       → ArrangesFor table steps arrived row (Err OtherRow)
   is_arranged : {arranged : stored_arranged.Arranged} → Arranges table steps arrived.window (window_in arranged.window)
       → row_match arrived.facts row (front_row (λ tree. tree) (window_in arranged.window).front) ≡ Some (helds_of arranged.helds)
-      → IsArrangedIn table arranged.window → ArrangesFor table steps arrived row (Ok arranged)
+      → ArrangesFor table steps arrived row (Ok arranged)
 
 -- what comes of the leaves from a number on, with these arrivals, comes of all of them
 abbrev pub LeavesGoOn : (setting : Setting) → Departure → (arranged : Window) → Arrivals → List (List Fact) → List Leaf → List Tree

@@ -35,7 +35,7 @@ loop-rest-init c =
       on = λ outcome all. subst (λ (list : List Tree). AllLeadOn (setting_in s) (departure_in c.args.departure) (with_limits limits (window_in arranged)) 0
           (arrivals_in c.args.arrivals.now) (helds_of c.args.helds.now) (leaves_of (row_of c.args.row.now)) list outcome) trees all;
       left = subst (λ (list : List WindowTree). AllByRecursion (λ (rest : WindowTree). IsLeft (left_window arranged limits rest)) list) (sym back)
-          (all_left (table_of s.table.now) arranged limits c.requires.arranged c.requires.setting.formed.limits rests (c.in_ok-rests.ensures.nodes c.requires.arranged.nodes) are);
+          (all_left arranged limits (table_of s.table.now) c.requires.arranged c.requires.setting.formed.limits rests (c.in_ok-rests.ensures.nodes c.requires.arranged.nodes) are);
       kept = c.requires.kept;
     }
 
