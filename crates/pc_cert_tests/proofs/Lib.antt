@@ -1,0 +1,2 @@
+pub mod TwoRegionsKept
+pub mod Arranged
