@@ -1,5 +1,5 @@
 -- Windows that arrive at entries, in memory.
-use Rattle.std.proofs.Common.{◌≡◌, ◌≢◌, ℕ, zero, suc, ◌<◌, ◌≤◌, ◌^◌, ◌⊎◌, inl, inr, Bool, true, List, [], ◌∷◌, length, map, get_or, Option, Some, None, refl, sym, ◌∙◌, ap, subst, arith}
+use Rattle.std.proofs.Common.{◌≡◌, ℕ, zero, suc, ◌<◌, ◌≤◌, ◌^◌, inl, inr, Bool, true, List, [], ◌∷◌, length, get_or, Option, Some, None, sym, ◌∙◌, ap, subst, arith}
 use Rattle.std.specs.Prelude.{IfSome, slice_get, slice_set}
 use Rattle.std.proofs.lemmas.Bool.Decides.{eqb_tells}
 use Rattle.std.proofs.lemmas.List.{length-map, length-set, map-set, set-set}
@@ -16,9 +16,8 @@ use Rattle.pc_window.specs.Steps.{IsProper}
 use Rattle.pc_window.specs.WindowRun.{Window}
 use Rattle.pc_window.specs.StoredWindow.{tree_in, window_in, InNodes}
 use Rattle.pc_window.proofs.WindowsStored.{whole_in}
-use Rattle.pc_renumber.specs.Renumbering.{renumbered, Renumbers}
+use Rattle.pc_renumber.specs.Renumbering.{Renumbers}
 use Rattle.pc_renumber.proofs.Renumbered.{renumbered_parts}
-use Rattle.pc_certified.specs.Facts.{Fact}
 use Rattle.pc_matching.specs.declared.fact.Fact as stored_fact
 use Rattle.pc_matching.specs.Facts.{facts_of}
 use Rattle.pc_settling.specs.Arrives.{facts_of_entry}
@@ -27,7 +26,7 @@ use Rattle.pc_settling.specs.StoredFacts.{some_facts_of}
 use Rattle.pc_accepted.specs.Arrivals.{FirstArrival, no_arrivals, first_arrival, arrival_with}
 use Rattle.pc_checking.specs.declared.arrival.FirstArrival as stored_arrival
 use Rattle.pc_checking.specs.declared.setting.Setting as stored_setting
-use Rattle.pc_checking.specs.models.Stored.{arrival_in, some_arrival_in, arrivals_in, AllBegun, AreKept}
+use Rattle.pc_checking.specs.models.Stored.{arrival_in, some_arrival_in, arrivals_in, AreKept}
 
 -- ---- a window numbered anew
 

@@ -1,5 +1,5 @@
 -- Where what is left leads, in memory.
-use Rattle.std.proofs.Common.{◌≡◌, ◌↔◌, ℕ, ◌<◌, Bool, true, false, List, length, get_or, Option, Some, None, Result, Ok, Err, refl, sym, ◌∙◌, ap, subst}
+use Rattle.std.proofs.Common.{◌≡◌, ◌↔◌, ℕ, Bool, true, false, Option, Some, None, Result, Ok, Err, sym, ◌∙◌, subst}
 use Rattle.std.specs.Prelude.{IfOk, slice_get, slice_set}
 use Rattle.pc_word.specs.declared.item.Limits.{Limits}
 use Rattle.pc_table.specs.Table.{Table}

@@ -10,7 +10,7 @@ use Rattle.pc_word.proofs.Places.{map_at}
 use Rattle.pc_table.specs.Table.{Table}
 use Rattle.pc_table.specs.StoredTable.{table_of}
 use Rattle.pc_machine.specs.declared.tree.Leaf.{Leaf}
-use Rattle.pc_machine.specs.MachineCode.{CodeRow, row_of, code_of}
+use Rattle.pc_machine.specs.MachineCode.{CodeRow, row_of}
 use Rattle.pc_machine.specs.WellFormed.{IsRow}
 use Rattle.pc_cert.specs.declared.certificate.Entry.{Entry}
 use Rattle.pc_cert.specs.declared.certificate.Step.{Step}
@@ -21,10 +21,8 @@ use Rattle.pc_window.specs.StoredWindow.{window_in}
 use Rattle.pc_matching.specs.declared.fact.Fact as stored_fact
 use Rattle.pc_matching.specs.Facts.{helds_of}
 use Rattle.pc_settling.specs.Stored.{IsBegun}
-use Rattle.pc_accepted.specs.declared.flaw.LeafFlaw.{LeafFlaw}
 use Rattle.pc_accepted.specs.declared.flaw.Flaw.{Flaw}
 use Rattle.pc_accepted.specs.declared.flaw.Flaw.TheVariants as flaw
-use Rattle.pc_accepted.specs.declared.flaw.Rejection.{Rejection}
 use Rattle.pc_accepted.specs.Arrivals.{Arrivals, FirstArrival}
 use Rattle.pc_accepted.specs.Leading.{Setting, AllLeadOn}
 use Rattle.pc_accepted.specs.Accepted.{with_limits, LeavesLeadOn, IsDone, Passes, not_reached, has_no_row, not_arranged, not_matched, leaf_refused, passes_on, AllPass, all_passed, one_passed, one_rejected}

@@ -1,9 +1,8 @@
 -- How a certificate is answered, in memory.
-use Rattle.std.proofs.Common.{◌≡◌, ◌↔◌, ℕ, ℤ, ◌<◌, ◌≤◌, Bool, true, false, List, length, Option, Some, None, Result, Ok, Err, refl, sym, ◌∙◌, ap, subst, arith}
+use Rattle.std.proofs.Common.{◌≡◌, ◌↔◌, ℤ, ◌<◌, Bool, true, false, List, length, None, Result, Ok, Err, sym, ◌∙◌, subst, arith}
 use Rattle.std.specs.Prelude.{IfOk, MatchResult}
 use Rattle.pc_table.specs.declared.table.RegionTable.{RegionTable}
 use Rattle.pc_table.specs.Table.{Table}
-use Rattle.pc_table.specs.StoredTable.{table_of}
 use Rattle.pc_table.proofs.StoredRegions.{as_many}
 use Rattle.pc_machine.specs.MachineCode.{RowCode}
 use Rattle.pc_window.specs.WindowRun.{Window}
@@ -18,7 +17,7 @@ use Rattle.pc_accepted.specs.declared.flaw.Flaw.TheVariants as flaw
 use Rattle.pc_accepted.specs.declared.flaw.Rejection.{Rejection}
 use Rattle.pc_accepted.specs.Arrivals.{Arrivals, no_arrivals}
 use Rattle.pc_accepted.specs.Leading.{Setting, Leads}
-use Rattle.pc_accepted.specs.Accepted.{AllPass, StartLeads, at_start, at_first, HasData, Answers, has_other_data, does_not_start, starts, Accepts, Rejects, setting_of}
+use Rattle.pc_accepted.specs.Accepted.{AllPass, StartLeads, at_start, at_first, HasData, has_other_data, does_not_start, starts, Accepts, Rejects, setting_of}
 use Rattle.pc_checking.specs.models.Stored.{outcome_of}
 use Rattle.pc_checking.specs.models.Going.{GoesThrough}
 

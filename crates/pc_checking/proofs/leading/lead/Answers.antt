@@ -1,4 +1,4 @@
-use Rattle.std.proofs.Common.{◌≡◌, ◌∙◌, sym}
+use Rattle.std.proofs.Common.{◌∙◌, sym}
 use Rattle.pc_table.specs.StoredTable.{table_of}
 use Rattle.pc_settling.specs.Stored.{remaining_in, begun_in}
 use Rattle.pc_checking.specs.models.Stored.{arrivals_in, setting_in, some_departure_in}

@@ -1,4 +1,4 @@
-use Rattle.std.proofs.Common.{◌≡◌, ◌≤◌, ℕ, length, drop}
+use Rattle.std.proofs.Common.{◌≡◌, ◌≤◌, length, drop}
 use Rattle.pc_checking.specs.models.Rows.{TellFirst}
 use Rattle.pc_checking.proofs.setting.first_entries.Given as goal
 
