@@ -102,12 +102,13 @@ fn arrive_first(
     row: u32,
     left: Remaining,
     from: u32,
+    entered: bool,
 ) -> Result<Option<Link>, OutOfMemory>
     requires left { IsLeft left.window }
     requires all { AllLeft stands.old }
     ensures { OnOk result (AllLeft stands.new) }
 {
-    let opening = opening_of(setting, &left.window);
+    let opening = opening_of(setting, &left.window, entered);
     let kept = renumbered(alloc, &left.window)?;
     let Some(beginning) = beginning_of(alloc, setting, row, opening, left, from)? else {
         return Ok(None);
@@ -176,8 +177,8 @@ fn arrive_again(
     }))
 }
 
-/// What is left by a window with this least tag arrives at a row. `None`: it is not as it was when the row was reached
-/// before.
+/// What is left by a window with this least tag, in which a region was entered or not, arrives at a row. `None`: it is not
+/// as it was when the row was reached before.
 pub(crate) fn arrive(
     alloc: Global,
     setting: &Setting,
@@ -185,6 +186,7 @@ pub(crate) fn arrive(
     row: u32,
     left: Remaining,
     from: u32,
+    entered: bool,
 ) -> Result<Option<Link>, OutOfMemory>
     requires left { IsLeft left.window }
     requires all { AllLeft stands.old }
@@ -195,7 +197,7 @@ pub(crate) fn arrive(
         Some(of_row) => *of_row,
     };
     match of_row {
-        None => arrive_first(alloc, setting, stands, row, left, from),
+        None => arrive_first(alloc, setting, stands, row, left, from, entered),
         Some(number) => arrive_again(alloc, setting, stands, number, left, from),
     }
 }
@@ -215,6 +217,6 @@ pub(crate) fn arrive_at_start(
     let window = Window::of_region(alloc, setting.table, 0, setting.code.limits)?;
     let facts = facts_at_start(alloc, setting.code.registers as u32)?;
     let left = Remaining { window, facts };
-    let link = arrive(alloc, setting, stands, 0, left, 0)?;
+    let link = arrive(alloc, setting, stands, 0, left, 0, false)?;
     Ok(link.is_some())
 }

@@ -231,6 +231,27 @@ impl<'a> View<'a> {
         })
     }
 
+    /// The choice of an item that stands above a place behind the front, if the row does one before its next test.
+    fn item_above(&self, place: usize, top: usize, segment: u32) -> Option<Choice> {
+        let mut at = place;
+        for _ in top..place {
+            at = self.ways.get(at)?.above? as usize;
+            let what = self.resolved(at);
+            if let What::Item(item) = what {
+                if let Some(want) = self.want_of(segment, item) {
+                    if self.is_ready(at, what) {
+                        return Some(Choice::Item {
+                            place: at,
+                            top,
+                            want,
+                        });
+                    }
+                }
+            }
+        }
+        None
+    }
+
     /// The choice of what stands at a place, if the row does it.
     fn choice_at(&self, place: usize) -> Option<Choice> {
         let part = self.parts.get(place)?;
@@ -249,16 +270,19 @@ impl<'a> View<'a> {
                 Some(Choice::Item { place, top, want })
             }
             What::Test(on) => {
-                let segment = way.segment? as usize;
-                let it = self.wants.segments.get(segment)?;
+                let segment = way.segment?;
+                let it = self.wants.segments.get(segment as usize)?;
                 if !it.is_test(on) || !self.is_ready(place, what) {
                     return None;
                 }
-                Some(Choice::Test {
-                    place,
-                    top,
-                    segment,
-                })
+                match self.item_above(place, top, segment) {
+                    Some(choice) => Some(choice),
+                    None => Some(Choice::Test {
+                        place,
+                        top,
+                        segment: segment as usize,
+                    }),
+                }
             }
             What::Stub(_) | What::End => None,
         }

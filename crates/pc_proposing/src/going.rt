@@ -16,7 +16,7 @@ use pc_machine::{Leaf, Tree};
 use pc_matching::{Fact, FactList, match_row};
 use pc_settling::settle;
 use pc_window::{NameTable, Window, WindowTree};
-use pc_word::{OutOfMemory, RowTree};
+use pc_word::{Item, OutOfMemory, RowTree};
 use std::alloc::{AllocError, Global};
 
 /// What stands at the leaves of a row and of the window's front that it does: where the leaves lead, the facts that
@@ -54,6 +54,17 @@ fn push_leaves(leaves: &mut Vec<Leaf>, row: &Tree) -> Result<(), AllocError> {
     }
 }
 
+/// Whether the first item of a tree is a copy, as where a region was entered.
+fn begins_with_copy(tree: &WindowTree) -> bool {
+    matches!(
+        tree,
+        WindowTree::Step {
+            item: Item::Copy { .. },
+            ..
+        }
+    )
+}
+
 /// What is left at the next leaf, as this tree, arrives where the leaf leads. Appends the link, if it leads to a row.
 /// Says whether it can arrive.
 fn leaf_leads_on(
@@ -82,7 +93,9 @@ fn leaf_leads_on(
     let held = FactList::from_slice(alloc, held.as_slice())?;
     let window = copied_window(alloc, tree, leaving.names, limits, leaving.inside)?;
     let left = settle(alloc, window, held)?;
-    let Some(link) = arrive(alloc, setting, stands, *row, left, leaving.tag)? else {
+    let entered = begins_with_copy(tree);
+    let link = arrive(alloc, setting, stands, *row, left, leaving.tag, entered)?;
+    let Some(link) = link else {
         return Ok(false);
     };
     links.push(Some(link))?;
