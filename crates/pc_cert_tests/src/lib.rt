@@ -9,6 +9,8 @@ mod arriving;
 #[cfg(test)]
 mod beginning;
 #[cfg(test)]
+mod checking;
+#[cfg(test)]
 mod left;
 #[cfg(test)]
 mod rows;
