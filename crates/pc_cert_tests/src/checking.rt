@@ -6,6 +6,8 @@ use pc_cert::{
 };
 use pc_checking::{CheckError, check};
 use pc_machine::{Code, FEW_REGISTERS, Leaf, Tree, TreeList, well_formed};
+use pc_object::{NoteList, Object};
+use pc_proposing::propose;
 use pc_specimen::chain;
 use pc_table::RegionTable;
 use pc_word::{Item, LengthList, Limits, OpCode, Operand, RowTree, no_data};
@@ -376,5 +378,18 @@ fn others_are_refused_at_their_first_flaw(rt: HostRuntime) -> Result<(), Fail> {
         let refused = is_answered(alloc, &table, &loop_code, &certificate, Some(rejection))?;
         assert!(rt; refused, "{place} {number}");
     }
+    Ok(())
+}
+
+#[test]
+fn what_is_proposed_is_accepted(rt: HostRuntime) -> Result<(), Fail> {
+    let alloc = rt.alloc();
+    let table = two_regions(alloc)?;
+    let object = Object {
+        code: code(alloc, &[])?,
+        notes: NoteList::new(alloc),
+    };
+    let certificate = propose(alloc, &table, &object)?;
+    assert!(rt; is_answered(alloc, &table, &object.code, &certificate, None)?);
     Ok(())
 }
