@@ -230,12 +230,11 @@ fn choose_used(
     Ok(chosen)
 }
 
-/// A window with the stubs opened from which something comes that a row does, at most so many iterations ahead.
-fn look_ahead(
+/// A window with all stubs opened below the leaves that are marked, so many iterations ahead.
+fn opened_far(
     alloc: Global,
     start: Start,
     ahead: &Ahead,
-    goal: Goal,
     lacking: &[bool],
     enters: bool,
     levels: u32,
@@ -253,29 +252,39 @@ fn look_ahead(
         return Ok(None);
     };
     for _ in 1..levels {
-        let from = number_of(blocks.len());
         let marks = leaves_from(alloc, &far, first)?;
         let chosen = choose_marked(alloc, &far, start, enters, marks.as_slice(), blocks)?;
-        if !any(chosen.as_slice()) || far.parts.len() > MOST_PARTS || from > 4096 {
-            break;
+        if !any(chosen.as_slice()) || far.parts.len() > MOST_PARTS {
+            return Ok(Some(far));
         }
         let Some(further) = opened(alloc, start, &far, chosen.as_slice())? else {
-            break;
+            return Ok(Some(far));
         };
         far = further;
     }
-    let trial = tried(alloc, &far, goal)?;
-    if !mark_used(blocks, trial.blocks.as_slice(), first) {
-        return Ok(None);
-    }
-    let chosen = choose_used(alloc, ahead, blocks.as_slice(), first)?;
+    Ok(Some(far))
+}
+
+/// A window with the stubs opened from which something came, of those from a number on.
+fn opened_used(
+    alloc: Global,
+    start: Start,
+    ahead: &Ahead,
+    levels: u32,
+    blocks: &[Block],
+    first: u32,
+) -> Result<Option<Ahead>, OutOfMemory>
+    requires limits { AreLimits start.limits }
+    requires left { IsLeft start.left.now }
+{
+    let chosen = choose_used(alloc, ahead, blocks, first)?;
     let Some(mut found) = opened(alloc, start, ahead, chosen.as_slice())? else {
         return Ok(None);
     };
     for _ in 1..levels {
-        let chosen = choose_used(alloc, &found, blocks.as_slice(), first)?;
+        let chosen = choose_used(alloc, &found, blocks, first)?;
         if !any(chosen.as_slice()) {
-            break;
+            return Ok(Some(found));
         }
         let Some(further) = opened(alloc, start, &found, chosen.as_slice())? else {
             return Ok(None);
@@ -283,6 +292,32 @@ fn look_ahead(
         found = further;
     }
     Ok(Some(found))
+}
+
+/// A window with the stubs opened from which something comes that a row does, at most so many iterations ahead.
+fn look_ahead(
+    alloc: Global,
+    start: Start,
+    ahead: &Ahead,
+    goal: Goal,
+    lacking: &[bool],
+    enters: bool,
+    levels: u32,
+    blocks: &mut Vec<Block>,
+) -> Result<Option<Ahead>, OutOfMemory>
+    requires limits { AreLimits start.limits }
+    requires left { IsLeft start.left.now }
+{
+    let first = number_of(blocks.len());
+    let far = opened_far(alloc, start, ahead, lacking, enters, levels, blocks)?;
+    let Some(far) = far else {
+        return Ok(None);
+    };
+    let trial = tried(alloc, &far, goal)?;
+    if !mark_used(blocks, trial.blocks.as_slice(), first) {
+        return Ok(None);
+    }
+    opened_used(alloc, start, ahead, levels, blocks.as_slice(), first)
 }
 
 /// A block for each number that stands in a window.

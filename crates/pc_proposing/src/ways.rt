@@ -69,6 +69,17 @@ fn hand_down(
     Ok(())
 }
 
+/// The place of the first part of a part's path behind the front, where it is not in the front.
+fn top_of(part: Part, down: Down, at: usize) -> Option<u32> {
+    if part.finished {
+        return None;
+    }
+    match down.top {
+        Some(top) => Some(top),
+        None => Some(number_of(at)),
+    }
+}
+
 /// What stands above each part.
 pub(crate) fn ways_of(
     alloc: Global,
@@ -88,14 +99,7 @@ pub(crate) fn ways_of(
         let Some(down) = waiting.pop() else {
             return Ok(ways);
         };
-        let top = if part.finished {
-            None
-        } else {
-            match down.top {
-                Some(top) => Some(top),
-                None => Some(number_of(at)),
-            }
-        };
+        let top = top_of(part, down, at);
         ways.push(Way {
             above: down.above,
             segment: down.segment,
