@@ -25,7 +25,8 @@ use Rattle.pc_accepted.specs.declared.flaw.Flaw.{Flaw}
 use Rattle.pc_accepted.specs.declared.flaw.Flaw.TheVariants as flaw
 use Rattle.pc_accepted.specs.Arrivals.{Arrivals, FirstArrival}
 use Rattle.pc_accepted.specs.Leading.{Setting, AllLeadOn}
-use Rattle.pc_accepted.specs.Accepted.{with_limits, LeavesLeadOn, IsDone, Passes, not_reached, has_no_row, not_arranged, not_matched, leaf_refused, passes_on, AllPass, all_passed, one_passed, one_rejected}
+use Rattle.pc_accepted.specs.Accepted.{with_limits, LeavesLeadOn, IsDone, Passes, not_reached, has_no_row, not_arranged, not_matched, leaf_refused, passes_on}
+use Rattle.pc_accepted.specs.Accepted.{AllPass, all_passed, one_passed, one_rejected}
 use Rattle.pc_checking.specs.declared.arranged.Arranged as stored_arranged
 use Rattle.pc_checking.specs.declared.arrival.FirstArrival as stored_arrival
 use Rattle.pc_checking.specs.declared.leaves.LeafRefusal as stored_refusal
@@ -48,7 +49,8 @@ row_there rows number row is = map_at row_of rows number row (sym is)
 pub row_keeps : (s : stored_setting.Setting) (number : ℕ) (row : RowTree Leaf) → IsSetting s → Some row ≡ slice_get s.code.now.rows number → IsRowOf s (row_of row)
 row_keeps s number row is there =
     subst (λ (n : ℕ). IsRow s.code.now.limits s.code.now.registers (length s.code.now.arrays) n (row_of row)) (length-map s.code.now.rows row_of)
-    (all_at (IsRow s.code.now.limits s.code.now.registers (length s.code.now.arrays) (length (map row_of s.code.now.rows))) (map row_of s.code.now.rows) number (row_of row) is.formed.rows (row_there s.code.now.rows number row there))
+    (all_at (IsRow s.code.now.limits s.code.now.registers (length s.code.now.arrays) (length (map row_of s.code.now.rows))) (map row_of s.code.now.rows) number (row_of row)
+    is.formed.rows (row_there s.code.now.rows number row there))
 
 -- nothing has arrived at an entry that is read
 pub pass_nowhere : (s : Setting) (number : ℕ) (entry : Entry) (arrivals : List (Option stored_arrival.FirstArrival)) (default : Option stored_arrival.FirstArrival)

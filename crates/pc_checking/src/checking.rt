@@ -99,13 +99,15 @@ fn answer(
     go_through(alloc, &setting)
 }
 
-/// Whether a certificate is accepted, which says why a code does what a table of regions does over arrays that begin with these words.
+/// Whether a certificate is accepted, which says why a code does what a table of regions does over arrays that
+/// begin with these words. Where it is, the code agrees with the table on every input of words on which the table
+/// does not fault (`law_of_accepted_codes` of pc_accepted).
 ///
-/// The entries are gone through one after the other. `Rejected` tells the first that is refused, and why; where a
-/// certificate is accepted, the code agrees with the table on every input of words (`law_of_accepted_codes` of
-/// pc_accepted). For each entry it takes the time of its steps, and then, for each leaf of its row, time in
-/// proportion to what is left there, and to the facts that hold times those of the next entry. Each entry that was reached takes memory
-/// for its window.
+/// The entries are gone through one after the other. `Rejected`: the first that is refused, and why. `Memory`:
+/// memory ran out, which says nothing of the certificate. For each entry it takes the time of its steps
+/// (`do_steps`) and of holding its row against its window (`match_row`), and for each leaf of the row
+/// time in proportion to what is left there, and to the facts that hold times those of the next entry. Memory is kept
+/// for the window of each entry that was reached.
 pub fn check(
     alloc: Global,
     table: &RegionTable,

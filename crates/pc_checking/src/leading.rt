@@ -16,8 +16,8 @@ use pc_settling::{Begun, Remaining, arrives, begin, progress};
 use pc_word::OutOfMemory;
 use std::alloc::Global;
 
-/// Whether there is progress to an entry: always from the start; else where a region was entered, or from one window
-/// to the other.
+/// Whether there is progress to an entry: always from the start; else where a region was entered, or from one
+/// window to the other.
 fn has_progress(departure: Option<Departure>, begun: &Begun, entry: &Entry) -> bool
     ensures { result ≡ has_progress (some_departure_in departure) (begun_in begun.now) entry.now }
 {
@@ -53,7 +53,8 @@ fn meet(
     Ok(Ok(()))
 }
 
-/// What an entry begins with leads to the entry, which stands for it from then on, unless it stood for something before.
+/// What an entry begins with leads to the entry, which stands for it from then on, unless it stood for something
+/// before.
 fn lead_to(
     alloc: Global,
     setting: &Setting,
@@ -65,7 +66,8 @@ fn lead_to(
     requires begun { IsBegun (table_of setting.now.table.now) begun.now.window }
     requires within { number < length setting.now.entries.now }
     requires kept { AreKept setting.now arrivals.old }
-    ensures leads { IfOk result (λ outcome. LeadsTo (setting_in setting.now) (some_departure_in departure) (begun_in begun.now) number (arrivals_in arrivals.old) (outcome_of (arrivals_in arrivals.new) outcome)) }
+    ensures leads { IfOk result (λ outcome. LeadsTo (setting_in setting.now) (some_departure_in departure) (begun_in begun.now) number (arrivals_in arrivals.old)
+        (outcome_of (arrivals_in arrivals.new) outcome)) }
     ensures kept { OnOk result (AreKept setting.now arrivals.new) }
 {
     let entry = &setting.entries[number as usize];
@@ -79,8 +81,8 @@ fn lead_to(
     Ok(met)
 }
 
-/// What is left leads to a row's entry; or the first reason why it does not. From then on the entry stands for what it begins with, unless
-/// it stood for something before.
+/// What is left leads to a row's entry; or the first reason why it does not. From then on the entry stands for what
+/// it begins with, unless it stood for something before.
 pub(crate) fn lead(
     alloc: Global,
     setting: &Setting,

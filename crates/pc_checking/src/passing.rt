@@ -13,8 +13,8 @@ use pc_settling::front_tag;
 use pc_word::OutOfMemory;
 use std::alloc::Global;
 
-/// An entry passes: something has arrived there, its steps arrange that, its row does what the front does, and the row's leaves lead
-/// on; or the first reason against it.
+/// An entry passes: something has arrived there, its steps arrange that, its row does what the front does, and
+/// the row's leaves lead on; or the first reason against it.
 #[tactic(auto, using(crate::proofs::Passes::passing))]
 fn pass(
     alloc: Global,
@@ -39,25 +39,13 @@ fn pass(
         rank: entry.rank,
         tag: front_tag(&arrived.window),
     };
-    let Arranged { window, helds } = match arrange(
-        alloc,
-        setting.table,
-        entry.steps.as_slice(),
-        arrived,
-        row,
-    )? {
+    let steps = entry.steps.as_slice();
+    let Arranged { window, helds } = match arrange(alloc, setting.table, steps, arrived, row)? {
         Ok(arranged) => arranged,
         Err(flaw) => return Ok(Err(flaw)),
     };
-    let led = leaves_lead_on(
-        alloc,
-        setting,
-        departure,
-        row,
-        &window,
-        helds.as_slice(),
-        arrivals,
-    )?;
+    let helds = helds.as_slice();
+    let led = leaves_lead_on(alloc, setting, departure, row, &window, helds, arrivals)?;
     match led {
         Ok(()) => Ok(Ok(())),
         Err(refusal) => Ok(Err(Flaw::Leaf {

@@ -54,7 +54,7 @@ abbrev pub some_departure_in : Option stored_departure.Departure → Option Depa
 some_departure_in None = None
 some_departure_in (Some departure) = Some (departure_in departure)
 
--- by each row of a code the number of the first entry that speaks of it
+-- the code is well formed, and each of its rows has the number of the first entry that speaks of it
 pub record IsSetting (s : stored_setting.Setting) : Type 0 where
   pub formed : WellFormed (code_of s.code.now)
   pub few : length s.entries.now < 2 ^ 32

@@ -21,8 +21,8 @@ returns-in-Err-clause-passes c =
     pass_not (setting_in s) c.args.number entry (arrivals_in c.args.arrivals.now) (arrival_in c.in-Some.arrived) (row_of row.row.now)
     (was_so c.args.arrivals.now c.args.number here.result _ (omega (arith, many, within)) c.in-Some.is)
     (row_there s.code.now.rows entry.row row.row.now row.ensures.value) c.in-Err.flaw
-    (arranged_so (table_of s.table.now) entry.steps c.as_slice.result.now (arrival_in c.in-Some.arrived) (row_of row.row.now) c.in_ok-arranged.field-0 (Err c.in-Err.flaw)
-    c.as_slice.ensures c.in-Err.is c.in_ok-arranged.ensures.arranges)
+    (arranged_so (table_of s.table.now) entry.steps c.as_slice-steps.result.now (arrival_in c.in-Some.arrived) (row_of row.row.now) c.in_ok-arranged.field-0 (Err c.in-Err.flaw)
+    c.as_slice-steps.ensures c.in-Err.is c.in_ok-arranged.ensures.arranges)
 
 pub leaves_lead_on-requires-clause-row : goal.leaves_lead_on-requires-clause-row
 leaves_lead_on-requires-clause-row c = row_keeps c.args.setting.now c.args.entry.now.row c.in-Some-get.row.now c.requires.setting c.in-Some-get.ensures.value
@@ -38,8 +38,8 @@ returns-in-Ok-led-clause-passes c =
     pass_on (setting_in s) c.args.number entry (arrivals_in c.args.arrivals.now) (arrival_in c.in-Some.arrived) (row_of row.row.now)
     (was_so c.args.arrivals.now c.args.number here.result _ (omega (arith, many, within)) c.in-Some.is)
     (row_there s.code.now.rows entry.row row.row.now row.ensures.value) c.in-Ok.arranged
-    (arranged_so (table_of s.table.now) entry.steps c.as_slice.result.now (arrival_in c.in-Some.arrived) (row_of row.row.now) c.in_ok-arranged.field-0 (Ok c.in-Ok.arranged)
-    c.as_slice.ensures c.in-Ok.is c.in_ok-arranged.ensures.arranges) c.front_tag.result c.front_tag.ensures c.as_slice-2.result.now c.as_slice-2.ensures
+    (arranged_so (table_of s.table.now) entry.steps c.as_slice-steps.result.now (arrival_in c.in-Some.arrived) (row_of row.row.now) c.in_ok-arranged.field-0 (Ok c.in-Ok.arranged)
+    c.as_slice-steps.ensures c.in-Ok.is c.in_ok-arranged.ensures.arranges) c.front_tag.result c.front_tag.ensures c.as_slice-helds.result.now c.as_slice-helds.ensures
     (arrivals_in c.leaves_lead_on.new.arrivals) c.in_ok-led.led c.in_ok-led.ensures.lead c.in-Ok-led.field-0 c.in-Ok-led.is
 
 pub returns-clause-passes : goal.returns-clause-passes
@@ -53,6 +53,6 @@ returns-clause-passes c =
     pass_no_leaf (setting_in s) c.args.number entry (arrivals_in c.args.arrivals.now) (arrival_in c.in-Some.arrived) (row_of row.row.now)
     (was_so c.args.arrivals.now c.args.number here.result _ (omega (arith, many, within)) c.in-Some.is)
     (row_there s.code.now.rows entry.row row.row.now row.ensures.value) c.in-Ok.arranged
-    (arranged_so (table_of s.table.now) entry.steps c.as_slice.result.now (arrival_in c.in-Some.arrived) (row_of row.row.now) c.in_ok-arranged.field-0 (Ok c.in-Ok.arranged)
-    c.as_slice.ensures c.in-Ok.is c.in_ok-arranged.ensures.arranges) c.front_tag.result c.front_tag.ensures c.as_slice-2.result.now c.as_slice-2.ensures
+    (arranged_so (table_of s.table.now) entry.steps c.as_slice-steps.result.now (arrival_in c.in-Some.arrived) (row_of row.row.now) c.in_ok-arranged.field-0 (Ok c.in-Ok.arranged)
+    c.as_slice-steps.ensures c.in-Ok.is c.in_ok-arranged.ensures.arranges) c.front_tag.result c.front_tag.ensures c.as_slice-helds.result.now c.as_slice-helds.ensures
     (arrivals_in c.leaves_lead_on.new.arrivals) c.in_ok-led.led c.in_ok-led.ensures.lead c.in-Err-led.refusal c.in-Err-led.is
