@@ -11,8 +11,6 @@ ghost use Rattle.pc_checking.specs.models.Going.{ArrangesFor};
 ghost use Rattle.pc_checking.specs.models.Stored.{arrival_in};
 
 use crate::arrival::FirstArrival;
-use crate::copying::copy_window;
-use crate::fronts::front_as_row;
 use pc_accepted::Flaw;
 use pc_arranging::do_steps;
 use pc_cert::Step;
@@ -45,11 +43,11 @@ pub(crate) fn arrange(
     ensures leaves { IfOk result (λ outcome. IfOk outcome (λ it. length it.helds ≡ length (leaves_of (row_of row.now)))) }
     ensures rests { IfOk result (λ outcome. IfOk outcome (λ it. length it.helds ≡ length (leaves_of (front_row (λ tree. tree) (front_in it.window.tree))))) }
 {
-    let window = copy_window(alloc, &arrived.window)?;
+    let window = arrived.window.copy(alloc)?;
     let Some(window) = do_steps(alloc, table, window, steps)? else {
         return Ok(Err(Flaw::IllegalStep));
     };
-    let front = front_as_row(alloc, &window.tree)?;
+    let front = window.tree.front_row(alloc)?;
     let Some(helds) = match_row(alloc, arrived.facts.as_slice(), row, &front)? else {
         return Ok(Err(Flaw::OtherRow));
     };

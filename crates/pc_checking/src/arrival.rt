@@ -8,7 +8,6 @@ ghost use Rattle.pc_settling.specs.Stored.{IsLeft, IsBegun};
 ghost use Rattle.pc_accepted.specs.Arrivals.{no_arrivals, first_arrival};
 ghost use Rattle.pc_checking.specs.models.Stored.{some_arrival_in, arrivals_in};
 
-use crate::copying::copy_window;
 use pc_cert::Entry;
 use pc_matching::FactList;
 use pc_renumber::renumber;
@@ -45,7 +44,7 @@ fn renumbered_copy(alloc: Global, window: &Window) -> Result<Window, WindowError
     ensures proper { IfOk result (λ copy. IsProper (window_in copy)) }
     ensures begun { (table : Table) → IsBegun table window.now → IfOk result (λ copy. IsBegun table copy) }
 {
-    let copy = copy_window(alloc, window)?;
+    let copy = window.copy(alloc)?;
     let copy = renumber(alloc, copy)?;
     Ok(copy)
 }

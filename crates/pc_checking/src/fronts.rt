@@ -1,39 +1,12 @@
-//! The front of a window as a row, and what is left behind its leaves.
+//! What is left behind the leaves of a front.
 ghost use Rattle.std.specs.Prelude.{◌≡◌, ◌∷◌, ◌++◌, [], map, true, IfOk, OnOk};
 ghost use Rattle.std.specs.List.{AllByRecursion};
 ghost use Rattle.pc_word.specs.Row.{leaves_of};
-ghost use Rattle.pc_word.specs.StoredRow.{row_in};
 ghost use Rattle.pc_window.specs.Steps.{front_row};
 ghost use Rattle.pc_window.specs.StoredWindow.{tree_in, front_in, InNodes, NodesBehind};
 
-use crate::copying::copy_tree;
 use pc_window::WindowTree;
-use pc_word::RowTree;
 use std::alloc::{AllocError, Global};
-
-/// The front of a tree as a row, with nothing at its leaves.
-pub(crate) fn front_as_row(alloc: Global, tree: &WindowTree) -> Result<RowTree<()>, AllocError>
-    ensures { IfOk result (λ row. row_in (λ leaf. leaf) row ≡ front_row (λ rest. tt) (front_in tree.now)) }
-{
-    match tree {
-        WindowTree::Step { item, rest, .. } => {
-            let next = front_as_row(alloc, rest)?;
-            let next = Box::new(alloc, next)?;
-            Ok(RowTree::Step { item: *item, next })
-        }
-        WindowTree::Test { on, yes, no, .. } => {
-            let yes = front_as_row(alloc, yes)?;
-            let no = front_as_row(alloc, no)?;
-            let yes = Box::new(alloc, yes)?;
-            let no = Box::new(alloc, no)?;
-            Ok(RowTree::Test { on: *on, yes, no })
-        }
-        WindowTree::Node { .. }
-        | WindowTree::Exit { .. }
-        | WindowTree::Stop
-        | WindowTree::Trap { .. } => Ok(RowTree::Leaf { leaf: () }),
-    }
-}
 
 /// Appends a copy of the tree behind each leaf of a front, in preorder.
 fn push_rests(
@@ -66,7 +39,7 @@ fn push_copy(
     ensures rests { OnOk result (map tree_in rests.new.items ≡ map tree_in rests.old.items ++ tree_in tree.now ∷ []) }
     ensures nodes { OnOk result (InNodes true tree.now → AllByRecursion (InNodes true) rests.old.items → AllByRecursion (InNodes true) rests.new.items) }
 {
-    let copy = copy_tree(alloc, tree)?;
+    let copy = tree.copy(alloc)?;
     rests.push(copy)?;
     Ok(())
 }

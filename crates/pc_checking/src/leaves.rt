@@ -18,7 +18,6 @@ ghost use Rattle.pc_accepted.specs.Accepted.{with_limits};
 ghost use Rattle.pc_checking.specs.models.Stored.{left_window, arrivals_in, setting_in, departure_in, outcome_of, leaves_outcome, IsSetting, IsRowOf, AreKept};
 
 use crate::arrival::FirstArrival;
-use crate::copying::copy_names;
 use crate::fronts::rests_of;
 use crate::leading::lead;
 use crate::setting::{Departure, Setting};
@@ -76,7 +75,7 @@ fn left_at_leaf(
     ensures settled { IfOk result (λ left. remaining_in left ≡ settled (with_tree (with_limits limits (window_in arranged.now)) (tree_in rest)) (facts_of held.now)) }
     ensures left { IfOk result (λ left. IsLeft left.window) }
 {
-    let names = copy_names(alloc, &arranged.names)?;
+    let names = arranged.names.copy(alloc)?;
     let facts = FactList::from_slice(alloc, held)?;
     let window = Window {
         tree: rest,

@@ -4,7 +4,6 @@
 mod arranged;
 mod arrival;
 mod checking;
-mod copying;
 mod data;
 mod error;
 mod fronts;

@@ -10,7 +10,7 @@ use crate::arriving::arrive;
 use crate::planning::plan;
 use crate::stands::{Link, Setting, Stand, Stands};
 use crate::start::{Start, arranged, facts_there};
-use crate::undone::{copied_window, front_row};
+use crate::undone::copied_window;
 use pc_cert::Step;
 use pc_machine::{Leaf, Tree};
 use pc_matching::{Fact, FactList, match_row};
@@ -149,7 +149,7 @@ fn leaves_lead_on(
     ensures { OnOk result (AllLeft stands.new) }
 {
     let window = &prepared.window;
-    let front = front_row(alloc, &window.tree)?;
+    let front = window.tree.front_row(alloc)?;
     let Some(helds) = match_row(alloc, prepared.facts.as_slice(), row, &front)? else {
         return Ok(None);
     };

@@ -6,7 +6,6 @@
 mod ahead;
 mod arriving;
 mod choosing;
-mod copying;
 mod drafts;
 mod facts;
 mod filling;

@@ -4,7 +4,9 @@
 
 mod bring;
 mod conflict;
+mod copying;
 mod error;
+mod front_rows;
 mod grafting;
 mod home;
 mod laws;

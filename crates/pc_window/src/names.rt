@@ -37,6 +37,17 @@ impl NameTable {
         })
     }
 
+    /// An equal table, in memory of its own. It takes time and memory in proportion to the names.
+    pub fn copy(&self, alloc: Global) -> Result<NameTable, AllocError>
+        ensures { IfOk result (λ copy. copy ≡ self.now) }
+    {
+        let forms = FormList::from_slice(alloc, self.forms.as_slice())?;
+        Ok(NameTable {
+            forms,
+            next_variable: self.next_variable,
+        })
+    }
+
     /// The form of an operand.
     pub fn form(&self, operand: Operand) -> LinForm
         ensures { result ≡ operand_form (supply_in self.now).forms operand }
