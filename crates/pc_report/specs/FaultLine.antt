@@ -8,7 +8,7 @@ use Rattle.pc_word.specs.declared.item.MachineFault.TheVariants.{StoreOutOfRange
 use Rattle.pc_word.specs.declared.item.TrapKind.{TrapKind}
 use Rattle.pc_word.specs.declared.item.TrapKind.TheVariants.{DivideByZero, OutOfBounds, EndOfInput}
 use Rattle.pc_report.specs.declared.fault.Speaker.{Speaker}
-use Rattle.pc_report.specs.declared.fault.Speaker.TheVariants.{Pcc, Pvm, Pview, Pstat, Pasm}
+use Rattle.pc_report.specs.declared.fault.Speaker.TheVariants.{Pcc, Pvm, Pview, Pstat, Pasm, Pcheck}
 use Rattle.pc_report.specs.declared.fault.LineFault.{LineFault}
 use Rattle.pc_report.specs.declared.fault.LineFault.TheVariants as at_line
 use Rattle.pc_report.specs.declared.fault.SourceFault.{SourceFault}
@@ -28,6 +28,7 @@ speaker_text Pvm = codes "pvm"
 speaker_text Pview = codes "pview"
 speaker_text Pstat = codes "pstat"
 speaker_text Pasm = codes "pasm"
+speaker_text Pcheck = codes "pcheck"
 
 -- how a program is called
 abbrev pub usage_text : Speaker → List ℕ
@@ -36,6 +37,7 @@ usage_text Pvm = codes "usage: pvm OBJ [--cycles N]"
 usage_text Pview = codes "usage: pview OBJ [--dot]"
 usage_text Pstat = codes "usage: pstat OBJ [--cycles N] [--rows | --trace N | --dot | --json]"
 usage_text Pasm = codes "usage: pasm TEXT -o OBJ"
+usage_text Pcheck = codes "usage: pcheck SRC OBJ CERT [--make] [--why]"
 
 -- what is wrong at a line of a source
 abbrev pub line_fault_text : LineFault → List ℕ

@@ -16,6 +16,7 @@ impl fmt::Display for Speaker {
             Speaker::Pview => "pview",
             Speaker::Pstat => "pstat",
             Speaker::Pasm => "pasm",
+            Speaker::Pcheck => "pcheck",
         })
     }
 }
@@ -106,6 +107,7 @@ fn usage(who: Speaker) -> &'static str
         Speaker::Pview => "usage: pview OBJ [--dot]",
         Speaker::Pstat => { "usage: pstat OBJ [--cycles N] [--rows | --trace N | --dot | --json]" }
         Speaker::Pasm => "usage: pasm TEXT -o OBJ",
+        Speaker::Pcheck => "usage: pcheck SRC OBJ CERT [--make] [--why]",
     }
 }
 

@@ -15,6 +15,8 @@ pub enum Speaker {
     Pstat,
     /// The assembler.
     Pasm,
+    /// The checker of certificates.
+    Pcheck,
 }
 
 /// Why a program does not end with success. It borrows the name of a file.
