@@ -1,11 +1,12 @@
 -- Words that are a command or none, as the definitions compute them.
-use Rattle.std.proofs.Common.{◌≡◌, ℕ, true, List, [], ◌∷◌, refl, codes}
+use Rattle.std.proofs.Common.{◌≡◌, ℕ, Bool, true, List, [], ◌∷◌, refl, codes}
 use Rattle.std.specs.Prelude.{Option, Some, None}
 use Rattle.clap.proofs.OnLiterals.{clap_on_literals}
 use Rattle.pc_command.specs.Arguments.{flag_in, matches_taken, word_in}
 use Rattle.pc_command.specs.Laws.{plain_request}
 use Rattle.pc_command.specs.Options.{number_in}
-use Rattle.pc_command.specs.Requests.{CompileRequest, OfFile, OfSample, SourcePlace, behind_at, compile_command_of, compile_request_in, source_place_of, simulate_command_of, simulate_request_in}
+use Rattle.pc_command.specs.Requests.{CheckRequest, CompileRequest, OfFile, OfSample, SourcePlace, behind_at, compile_command_of, compile_request_in, source_place_of, simulate_command_of, simulate_request_in}
+use Rattle.pc_command.specs.Requests.{check_command_of, check_request_in}
 use Rattle.pc_command.specs.Requests.{assemble_command_of, assemble_request_in, stat_command_of, stat_request_in, view_command_of, view_request_in}
 use Rattle.pc_command.specs.declared.stat.StatMode.TheVariants as mode
 use Rattle.pc_command.proofs.Programs.{argument_tables}
@@ -16,7 +17,7 @@ plain source = plain_request source (codes "y")
 
 -- what is opened to compute them
 unfoldable requests : Unit {0}
-unfolding compile_command_of compile_request_in simulate_command_of simulate_request_in view_command_of view_request_in stat_command_of stat_request_in source_place_of behind_at
+unfolding compile_command_of compile_request_in simulate_command_of simulate_request_in view_command_of view_request_in stat_command_of stat_request_in check_command_of check_request_in source_place_of behind_at
 requests = tt
 
 unfoldable commands : Unit {0}
@@ -156,3 +157,23 @@ modes-twice = refl
 trace-and-rows : stat_command_of (codes "--rows" ∷ (codes "y" ∷ (codes "--trace=5" ∷ []))) ≡ None
 unfolding commands
 trace-and-rows = refl
+
+-- the checker's
+abbrev checking : SourcePlace → (make why : Bool) → Option CheckRequest
+checking source make why = Some (record { source = source; object = codes "y"; certificate = codes "z"; make = make; why = why })
+
+flags-first : check_command_of (codes "--why" ∷ (codes "@7" ∷ (codes "--make" ∷ (codes "y" ∷ (codes "z" ∷ []))))) ≡ checking (OfSample 7) true true
+unfolding commands
+flags-first = refl
+
+no-certificate : check_command_of (codes "x.c" ∷ (codes "y" ∷ (codes "--make" ∷ []))) ≡ None
+unfolding commands
+no-certificate = refl
+
+make-twice : check_command_of (codes "x.c" ∷ (codes "--make" ∷ (codes "y" ∷ (codes "z" ∷ (codes "--make" ∷ []))))) ≡ None
+unfolding commands
+make-twice = refl
+
+no-sample : check_command_of (codes "@" ∷ (codes "y" ∷ (codes "z" ∷ []))) ≡ None
+unfolding commands
+no-sample = refl

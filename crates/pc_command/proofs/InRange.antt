@@ -5,12 +5,13 @@ use Rattle.std.specs.Str.Parse.{digits_value}
 use Rattle.std.proofs.lemmas.Bool.{ltb-true}
 use Rattle.pc_word.specs.NumberText.{is_numeral}
 use Rattle.pc_command.specs.Matching.{Matches}
-use Rattle.pc_command.specs.Arguments.{compile_app, flag_in, matches_taken, simulate_app, stat_app, word_in}
-use Rattle.pc_command.specs.Laws.{CompileCommandsAreInRange, IsInRange, IsSourcePlace, IsStatInRange, SimulateCommandsAreInRange, StatCommandsAreInRange}
+use Rattle.pc_command.specs.Arguments.{check_app, compile_app, flag_in, matches_taken, simulate_app, stat_app, word_in}
+use Rattle.pc_command.specs.Laws.{CheckCommandsAreInRange, CompileCommandsAreInRange, IsInRange, IsSourcePlace, IsStatInRange, SimulateCommandsAreInRange, StatCommandsAreInRange}
 use Rattle.pc_word.specs.Ranges.{AreCycles}
 use Rattle.pc_command.specs.Requests.{CompileRequest, OfFile, OfSample, SourcePlace, SimulateRequest, compile_command_of, compile_request_in}
 use Rattle.pc_command.specs.Requests.{behind_at, extent_in, limits_in, source_place_behind, source_place_of, sample_number_of, simulate_command_of, simulate_request_in}
 use Rattle.pc_command.specs.Options.{cycles_option, number_in}
+use Rattle.pc_command.specs.Requests.{CheckRequest, check_command_of, check_request_in}
 use Rattle.pc_command.specs.Requests.{StatRequest, mode_in, mode_of, stat_command_of, stat_request_in}
 use Rattle.pc_command.specs.declared.stat.StatMode.{StatMode}
 use Rattle.pc_command.specs.declared.stat.StatMode.TheVariants as mode
@@ -129,3 +130,23 @@ stat_command_of-range words request e = by (matches_taken stat_app words) e
     by : (o : Option Matches) → option_and_then stat_request_in o ≡ Some request → IsStatInRange request
     by None e = absurd (cc)
     by (Some matches) e = stat_request_in-range matches request e
+
+-- what the checker's matches ask is in range
+check_request_in-range : (matches : Matches) (request : CheckRequest) → check_request_in matches ≡ Some request → IsSourcePlace request.source
+unfolding check_request_in
+check_request_in-range matches request e = by (source_place_of (word_in (codes "SRC") matches)) refl e
+  where
+    by : (o : Option SourcePlace) → source_place_of (word_in (codes "SRC") matches) ≡ o → check_request_in matches ≡ Some request
+        → IsSourcePlace request.source
+    by None h e = absurd (let bad : None ≡ Some request = rw h at e in cc)
+    by (Some place) h e =
+        let is = value_is _ request (rw h at e) in
+        subst (λ (r : CheckRequest). IsSourcePlace r.source) is (source_place_of-IsSourcePlace (word_in (codes "SRC") matches) place h)
+
+pub check_command_of-range : CheckCommandsAreInRange
+unfolding check_command_of
+check_command_of-range words request e = by (matches_taken check_app words) e
+  where
+    by : (o : Option Matches) → option_and_then check_request_in o ≡ Some request → IsSourcePlace request.source
+    by None e = absurd (cc)
+    by (Some matches) e = check_request_in-range matches request e

@@ -12,4 +12,5 @@ pub mod Walks
 pub mod Defaults
 pub mod Whole
 pub mod PlainWords
+pub mod CheckWords
 mod Examples

@@ -4,7 +4,7 @@ use Rattle.std.specs.Prelude.{Some, None, codes, bytes_eq}
 use Rattle.clap.specs.Faults.{defaults_fault, fault_of, step_fault, turn_fault, walk_fault, word_fault}
 use Rattle.clap.specs.Lexer.{long_of, short_of}
 use Rattle.clap.specs.Simple.{Shape, built}
-use Rattle.clap.specs.Walk.{Held, Rule, Text, Waiting, Walk, after_step, idle, nothing_held, option, plain_word, positional, walk_from, walked, word_met}
+use Rattle.clap.specs.Walk.{Held, Row, Rule, Text, Waiting, Walk, after_step, idle, nothing_held, option, plain_word, positional, walk_from, walked, word_met}
 use Rattle.clap.specs.declared.builder.value_parser.Reading.TheVariants.{AsWritten}
 use Rattle.clap.specs.declared.parser.matches.ValueSource.TheVariants.{CommandLine}
 use Rattle.clap.proofs.OnLiterals.{clap_on_literals}
@@ -13,7 +13,7 @@ use Rattle.pc_command.specs.Laws.{IsPlainWord, NoWordsAreNoCommand, PlainWordPro
 use Rattle.pc_command.specs.Options.{number_in}
 use Rattle.pc_command.specs.Requests.{assemble_command_of, assemble_request_in, compile_command_of, compile_request_in}
 use Rattle.pc_command.specs.Requests.{simulate_command_of, simulate_request_in}
-use Rattle.pc_command.specs.Requests.{stat_command_of, stat_request_in, view_command_of, view_request_in}
+use Rattle.pc_command.specs.Requests.{check_command_of, stat_command_of, stat_request_in, view_command_of, view_request_in}
 use Rattle.pc_command.proofs.Programs.{argument_tables}
 
 -- ---- a plain word is neither a flag nor an option
@@ -49,11 +49,11 @@ plain_word-met rules (option id) place word held is = rw (no_dashes word is, no_
 plain_word-met rules positional place word held is = rw (no_dashes word is, no_long word is, no_short word is) refl
 
 -- a walk that stands at a place, with no subcommand and no `--` after it
-abbrev at_place : Held → Waiting → ℕ → Walk
+abbrev pub at_place : Held → Waiting → ℕ → Walk
 at_place held waiting place = record { held = held; waiting = waiting; position = place; is_trailing = false; stopped = None }
 
 -- the step over a plain word
-plain_word-walked : (rules : List Rule) (held : Held) (waiting : Waiting) (place : ℕ) (word : Text) → IsPlainWord word
+pub plain_word-walked : (rules : List Rule) (held : Held) (waiting : Waiting) (place : ℕ) (word : Text) → IsPlainWord word
     → walked rules [] (at_place held waiting place) word
     ≡ after_step rules word (at_place held waiting place) (plain_word rules waiting word held).0 (plain_word rules waiting word held).1
 unfolding walked
@@ -66,7 +66,7 @@ plain_word-fault shape held (option id) word is = rw (no_dashes word is, no_long
 plain_word-fault shape held positional word is = rw (no_dashes word is, no_long word is, no_short word is) refl
 
 -- so there is only the argument's fault that takes it
-plain_word-turn : (shape : Shape) (held : Held) (waiting : Waiting) (place : ℕ) (word : Text) → IsPlainWord word
+pub plain_word-turn : (shape : Shape) (held : Held) (waiting : Waiting) (place : ℕ) (word : Text) → IsPlainWord word
     → turn_fault shape [] (at_place held waiting place) word
     ≡ step_fault shape place (plain_word shape.rules waiting word held).0 (plain_word shape.rules waiting word held).1
 plain_word-turn shape held waiting place word is =
@@ -152,9 +152,12 @@ first_held name word = record { rows = []; pending = Some (name, word ∷ []); s
 abbrev source_held : Text → Held
 source_held source = first_held (codes "SRC") source
 
+abbrev pub word_row : (name word : Text) → Row
+word_row name word = record { id = name; values = word ∷ []; count = None; source = Some CommandLine; reading = AsWritten }
+
 abbrev taking_after : (name word : Text) → List Text → Held
 taking_after name word given = record {
-  rows = record { id = name; values = word ∷ []; count = None; source = Some CommandLine; reading = AsWritten } ∷ [];
+  rows = word_row name word ∷ [];
   pending = Some (codes "OBJ", given);
   skip = 0;
 }
@@ -271,5 +274,5 @@ plain_words-assemble text object is also =
 
 -- are no command
 pub no_words-command : NoWordsAreNoCommand
-unfolding compile_command_of assemble_command_of simulate_command_of view_command_of stat_command_of matches_taken argument_tables clap_on_literals
-no_words-command = (refl, refl, refl, refl, refl)
+unfolding compile_command_of assemble_command_of simulate_command_of view_command_of stat_command_of check_command_of matches_taken argument_tables clap_on_literals
+no_words-command = (refl, refl, refl, refl, refl, refl)

@@ -17,8 +17,8 @@ use Rattle.clap.specs.declared.builder.value_parser.ValueParser.TheVariants as v
 use Rattle.clap.proofs.OnLiterals.{clap_on_literals}
 use Rattle.pc_word.proofs.Truth.{or_false}
 use Rattle.pc_command.specs.Matching.{Matches}
-use Rattle.pc_command.specs.Arguments.{assemble_app, compile_app, flag_found, flag_spelled, matches_taken, simulate_app, stat_app, view_app}
-use Rattle.pc_command.specs.Laws.{AssembleMatchesAreWhole, CompileMatchesAreWhole, SimulateMatchesAreWhole, StatMatchesAreWhole, ViewMatchesAreWhole}
+use Rattle.pc_command.specs.Arguments.{assemble_app, check_app, compile_app, flag_found, flag_spelled, matches_taken, simulate_app, stat_app, view_app}
+use Rattle.pc_command.specs.Laws.{AssembleMatchesAreWhole, CheckMatchesAreWhole, CompileMatchesAreWhole, SimulateMatchesAreWhole, StatMatchesAreWhole, ViewMatchesAreWhole}
 use Rattle.pc_command.specs.Options.{NumberOption, cycles_option, mem_option, number_found, number_spelled, ops_option, rows_option, tests_option, trace_option, window_option}
 use Rattle.pc_command.proofs.Values.{Holds, IsPlainRule, is_plain_action, no_faults}
 use Rattle.pc_command.proofs.Walks.{settled_at_end, walk-holds}
@@ -158,6 +158,9 @@ view_rules = (built view_app).top.rules
 abbrev stat_rules : List Rule
 stat_rules = (built stat_app).top.rules
 
+abbrev check_rules : List Rule
+check_rules = (built check_app).top.rules
+
 -- an argument that may be used
 used_rule : (rules : List Rule) (a : Rule) → arg_by_id rules a.id ≡ Some a → is_plain_action (action_of a) ≡ true
     → (nat_lt 0 (unwrap_or_range a.range).start_inclusive || nat_lt 0 (length a.missing)) ≡ true → values_fault a a.defaults ≡ [] → IsPlainRule rules a
@@ -221,6 +224,18 @@ stat_rules_are_plain =
     (also (used_rule _ _ refl refl refl refl)
     (also (record { first = refl; plain = refl; valued = λ used. used; defaults = refl })
     tt))))))
+
+-- each of the checker
+check_rules_are_plain : AllByRecursion (IsPlainRule check_rules) check_rules
+unfolding argument_tables clap_on_literals
+check_rules_are_plain =
+    also (used_rule _ _ refl refl refl refl)
+    (also (used_rule _ _ refl refl refl refl)
+    (also (used_rule _ _ refl refl refl refl)
+    (also (used_rule _ _ refl refl refl refl)
+    (also (used_rule _ _ refl refl refl refl)
+    (also (record { first = refl; plain = refl; valued = λ used. used; defaults = refl })
+    tt)))))
 
 module _ (rules : List Rule) (matches : Matches) (hold : AllByRecursion (Holds rules) matches) where
   -- a word that is given
@@ -309,4 +324,20 @@ stat_matches-whole words matches e =
       trace = number_if_given stat_rules matches are.hold trace_option _ plain.1.1.1.0 refl refl;
       dot = flag_of stat_rules matches are.hold _ plain.1.1.1.1.0 refl (are.defaults.1.1.1.1.0 refl);
       json = flag_of stat_rules matches are.hold _ plain.1.1.1.1.1.0 refl (are.defaults.1.1.1.1.1.0 refl);
+    }
+
+-- nor of the checker's
+pub check_matches-whole : CheckMatchesAreWhole
+unfolding argument_tables
+check_matches-whole words matches e =
+    let are = matches_are_filled check_app words matches check_rules_are_plain e in
+    let plain = check_rules_are_plain in
+    let lacking = or_false _ _ (asks_for_none _ _ _ are.checked) in
+    let more = or_false _ _ lacking.1 in
+    record {
+      source = word_of check_rules matches are.hold _ plain.0 (not_lacking _ lacking.0);
+      object = word_of check_rules matches are.hold _ plain.1.0 (not_lacking _ more.0);
+      certificate = word_of check_rules matches are.hold _ plain.1.1.0 (not_lacking _ (or_false _ _ more.1).0);
+      make = flag_of check_rules matches are.hold _ plain.1.1.1.0 refl (are.defaults.1.1.1.0 refl);
+      why = flag_of check_rules matches are.hold _ plain.1.1.1.1.0 refl (are.defaults.1.1.1.1.0 refl);
     }

@@ -72,6 +72,16 @@ assemble_app = app_with (codes "pasm") (
     ∷ (letter_argument 111 (codes "OBJ")
     ∷ []))
 
+-- `pcheck SRC OBJ CERT [--make] [--why]`
+unfoldable pub check_app : App
+check_app = app_with (codes "pcheck") (
+    word_argument (codes "SRC")
+    ∷ (word_argument (codes "OBJ")
+    ∷ (word_argument (codes "CERT")
+    ∷ (flag_argument (codes "make")
+    ∷ (flag_argument (codes "why")
+    ∷ [])))))
+
 -- `pstat OBJ [--cycles N] [--rows] [--trace N] [--dot] [--json]`
 unfoldable pub stat_app : App
 stat_app = app_with (codes "pstat") (

@@ -1,13 +1,14 @@
 -- What holds of every command, said of the definitions alone.
-use Rattle.std.specs.Prelude.{◌≡◌, ◌≢◌, ℕ, ◌^◌, ◌<◌, List, [], ◌∷◌, Some, None, codes, false}
+use Rattle.std.specs.Prelude.{◌≡◌, ◌≢◌, ℕ, ◌^◌, ◌<◌, List, [], ◌∷◌, Option, Some, None, Bool, true, false, ⊤, codes, map, option_map}
+use Rattle.std.specs.List.{AllByRecursion}
 use Rattle.std.specs.Option.{IsSome}
 use Rattle.clap.specs.Walk.{first_of, one_of}
 use Rattle.pc_word.specs.Ranges.{AreCycles, IsExtent, AreLimits}
 use Rattle.pc_command.specs.Matching.{Matches}
-use Rattle.pc_command.specs.Arguments.{assemble_app, compile_app, flag_found, matches_taken, simulate_app, stat_app, view_app}
+use Rattle.pc_command.specs.Arguments.{assemble_app, check_app, compile_app, flag_found, matches_taken, simulate_app, stat_app, view_app}
 use Rattle.pc_command.specs.Options.{cycles_option, mem_option, number_found, ops_option, rows_option, tests_option, trace_option, window_option}
 use Rattle.pc_command.specs.Requests.{CompileRequest, OfFile, OfSample, SourcePlace, SimulateRequest, compile_command_of, simulate_command_of, source_place_of}
-use Rattle.pc_command.specs.Requests.{StatRequest, assemble_command_of, stat_command_of, view_command_of}
+use Rattle.pc_command.specs.Requests.{CheckRequest, StatRequest, assemble_command_of, check_command_of, stat_command_of, view_command_of}
 use Rattle.pc_command.specs.declared.stat.StatMode.TheVariants as mode
 
 -- ---- the ranges of a command
@@ -39,6 +40,10 @@ pub record IsStatInRange (request : StatRequest) : Type 0 where
 -- and each of the profiler
 abbrev pub StatCommandsAreInRange : Type 0
 StatCommandsAreInRange = (words : List (List ℕ)) (request : StatRequest) → stat_command_of words ≡ Some request → IsStatInRange request
+
+-- each command of the checker names a source; its other words may be any
+abbrev pub CheckCommandsAreInRange : Type 0
+CheckCommandsAreInRange = (words : List (List ℕ)) (request : CheckRequest) → check_command_of words ≡ Some request → IsSourcePlace request.source
 
 -- ---- the matches of a command
 
@@ -77,6 +82,14 @@ pub record AreStatMatches (matches : Matches) : Type 0 where
   pub dot : IsSome (flag_found (codes "dot") matches)
   pub json : IsSome (flag_found (codes "json") matches)
 
+-- and of the checker's: three words, and the state of each flag
+pub record AreCheckMatches (matches : Matches) : Type 0 where
+  pub source : IsSome (first_of (codes "SRC") matches)
+  pub object : IsSome (first_of (codes "OBJ") matches)
+  pub certificate : IsSome (first_of (codes "CERT") matches)
+  pub make : IsSome (flag_found (codes "make") matches)
+  pub why : IsSome (flag_found (codes "why") matches)
+
 -- the matches that `clap` gives of words that it takes lack nothing, so no command has a word or a number that stands for a missing one
 abbrev pub CompileMatchesAreWhole : Type 0
 CompileMatchesAreWhole = (words : List (List ℕ)) (matches : Matches) → matches_taken compile_app words ≡ Some matches → AreCompileMatches matches
@@ -93,9 +106,13 @@ SimulateMatchesAreWhole = (words : List (List ℕ)) (matches : Matches) → matc
 abbrev pub ViewMatchesAreWhole : Type 0
 ViewMatchesAreWhole = (words : List (List ℕ)) (matches : Matches) → matches_taken view_app words ≡ Some matches → AreViewMatches matches
 
--- and those of the profiler
+-- those of the profiler
 abbrev pub StatMatchesAreWhole : Type 0
 StatMatchesAreWhole = (words : List (List ℕ)) (matches : Matches) → matches_taken stat_app words ≡ Some matches → AreStatMatches matches
+
+-- and those of the checker
+abbrev pub CheckMatchesAreWhole : Type 0
+CheckMatchesAreWhole = (words : List (List ℕ)) (matches : Matches) → matches_taken check_app words ≡ Some matches → AreCheckMatches matches
 
 -- ---- plain words
 
@@ -140,3 +157,61 @@ PlainWordProfiles = (object : List ℕ) → IsPlainWord object
 abbrev pub NoWordsAreNoCommand : Type 0
 NoWordsAreNoCommand =
     (compile_command_of [] ≡ None) × (assemble_command_of [] ≡ None) × (simulate_command_of [] ≡ None) × (view_command_of [] ≡ None) × (stat_command_of [] ≡ None)
+    × (check_command_of [] ≡ None)
+
+-- ---- the words of the checker
+
+-- a word that begins with no hyphen, or one of the checker's flags
+pub data CheckWord : Type 0 where
+  Plain : List ℕ → CheckWord
+  Make : CheckWord
+  Why : CheckWord
+
+-- such a word, as it is written
+abbrev pub check_word : CheckWord → List ℕ
+check_word (Plain word) = word
+check_word Make = codes "--make"
+check_word Why = codes "--why"
+
+-- it begins with no hyphen where that is said of it
+abbrev pub IsCheckWord : CheckWord → Type 0
+IsCheckWord (Plain word) = IsPlainWord word
+IsCheckWord _ = ⊤
+
+-- those that begin with no hyphen, in their order
+abbrev pub plain_words : List CheckWord → List (List ℕ)
+plain_words [] = []
+plain_words (Plain word ∷ rest) = word ∷ plain_words rest
+plain_words (Make ∷ rest) = plain_words rest
+plain_words (Why ∷ rest) = plain_words rest
+
+-- one more of a flag: it may stand once
+abbrev pub once_more : Option Bool → Option Bool
+once_more (Some false) = Some true
+once_more _ = None
+
+-- whether `--make` stands among words, where it does not stand twice
+abbrev pub make_among : List CheckWord → Option Bool
+make_among [] = Some false
+make_among (Plain word ∷ rest) = make_among rest
+make_among (Make ∷ rest) = once_more (make_among rest)
+make_among (Why ∷ rest) = make_among rest
+
+-- and whether `--why` does
+abbrev pub why_among : List CheckWord → Option Bool
+why_among [] = Some false
+why_among (Plain word ∷ rest) = why_among rest
+why_among (Make ∷ rest) = why_among rest
+why_among (Why ∷ rest) = once_more (why_among rest)
+
+-- what three words SRC, OBJ and CERT ask for with the flags, where SRC names a source; other words ask for nothing
+abbrev pub check_asked : List (List ℕ) → (make why : Option Bool) → Option CheckRequest
+check_asked (source ∷ (object ∷ (certificate ∷ []))) (Some make) (Some why) =
+    option_map (λ place. record { source = place; object = object; certificate = certificate; make = make; why = why }) (source_place_of source)
+check_asked _ _ _ = None
+
+-- words that begin with no hyphen and flags are a command of the checker exactly where three begin with none, the first of these names a source, and no flag
+-- stands twice; in whatever order they stand, they ask for the same
+abbrev pub CheckWordsAsk : Type 0
+CheckWordsAsk = (words : List CheckWord) → AllByRecursion IsCheckWord words
+    → check_command_of (map check_word words) ≡ check_asked (plain_words words) (make_among words) (why_among words)

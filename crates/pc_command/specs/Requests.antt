@@ -1,17 +1,18 @@
--- What the words of a command line ask of the compiler, of the assembler, of the simulator, of the viewer and of the profiler.
+-- What the words of a command line ask of the compiler, of the assembler, of the simulator, of the viewer, of the profiler and of the checker.
 use Rattle.std.specs.Prelude.{ℕ, ◌^◌, ◌==◌, ◌&&◌, Bool, true, false, List, [], ◌∷◌, Option, Some, None, codes, if◌then◌else◌, nat_lt, option_and_then, option_map}
 use Rattle.std.specs.Str.Parse.{digits_value}
 use Rattle.pc_word.specs.NumberText.{is_numeral}
 use Rattle.pc_word.specs.declared.item.Limits.{Limits}
 use Rattle.pc_word.specs.declared.item.Extent.{Extent}
 use Rattle.pc_command.specs.Matching.{Matches}
-use Rattle.pc_command.specs.Arguments.{assemble_app, compile_app, flag_in, matches_taken, simulate_app, stat_app, view_app, word_in}
+use Rattle.pc_command.specs.Arguments.{assemble_app, check_app, compile_app, flag_in, matches_taken, simulate_app, stat_app, view_app, word_in}
 use Rattle.pc_command.specs.Options.{number_found, number_in, ops_option, tests_option, mem_option, window_option, rows_option, cycles_option, trace_option}
 use Rattle.pc_command.specs.declared.error.CommandError.{CommandError}
 use Rattle.pc_command.specs.declared.error.CommandError.TheVariants as error
 use Rattle.pc_command.specs.declared.source.SourceName.{SourceName}
 use Rattle.pc_command.specs.declared.source.SourceName.TheVariants as name
 use Rattle.pc_command.specs.declared.compile.CompileCommand.{CompileCommand}
+use Rattle.pc_command.specs.declared.check.CheckCommand.{CheckCommand}
 use Rattle.pc_command.specs.declared.assemble.AssembleCommand.{AssembleCommand}
 use Rattle.pc_command.specs.declared.simulate.SimulateCommand.{SimulateCommand}
 use Rattle.pc_command.specs.declared.view.ViewCommand.{ViewCommand}
@@ -52,6 +53,15 @@ pub record StatRequest : Type 0 where
   pub object : List ℕ
   pub cycles : ℕ
   pub mode : StatMode
+
+-- what the checker is asked to do: to say whether the certificate shows that the object means what the source means, or to make a certificate that does; and
+-- whether it is to tell why one is refused
+pub record CheckRequest : Type 0 where
+  pub source : SourcePlace
+  pub object : List ℕ
+  pub certificate : List ℕ
+  pub make : Bool
+  pub why : Bool
 
 -- the number that bytes spell in decimal digits alone, where it is one from 0 to 4294967295
 abbrev pub sample_number_of : List ℕ → Option ℕ
@@ -123,6 +133,16 @@ stat_request_in matches = option_map (λ mode. record {
   mode = mode;
 }) (mode_in matches)
 
+-- what the checker's matches ask, where SRC names a source
+unfoldable pub check_request_in : Matches → Option CheckRequest
+check_request_in matches = option_map (λ source. record {
+  source = source;
+  object = word_in (codes "OBJ") matches;
+  certificate = word_in (codes "CERT") matches;
+  make = flag_in (codes "make") matches;
+  why = flag_in (codes "why") matches;
+}) (source_place_of (word_in (codes "SRC") matches))
+
 -- what words ask of the compiler, if they are a command: `clap` takes them, and SRC names a source
 unfoldable pub compile_command_of : List (List ℕ) → Option CompileRequest
 compile_command_of words = option_and_then compile_request_in (matches_taken compile_app words)
@@ -142,6 +162,10 @@ view_command_of words = option_map view_request_in (matches_taken view_app words
 -- what words ask of the profiler, if they are a command: `clap` takes them, and they ask for one text
 unfoldable pub stat_command_of : List (List ℕ) → Option StatRequest
 stat_command_of words = option_and_then stat_request_in (matches_taken stat_app words)
+
+-- what words ask of the checker, if they are a command: `clap` takes them, and SRC names a source
+unfoldable pub check_command_of : List (List ℕ) → Option CheckRequest
+check_command_of words = option_and_then check_request_in (matches_taken check_app words)
 
 -- a name of a source, as plain data
 abbrev pub source_place : SourceName → SourcePlace
@@ -170,9 +194,19 @@ simulate_request command = record { object = command.object.now; cycles = comman
 abbrev pub view_request : ViewCommand → ViewRequest
 view_request command = record { object = command.object.now; dot = command.dot }
 
--- and for the profiler
+-- for the profiler
 abbrev pub stat_request : StatCommand → StatRequest
 stat_request command = record { object = command.object.now; cycles = command.cycles; mode = command.mode }
+
+-- and for the checker
+abbrev pub check_request : CheckCommand → CheckRequest
+check_request command = record {
+  source = source_place command.source;
+  object = command.object.now;
+  certificate = command.certificate.now;
+  make = command.make;
+  why = command.why;
+}
 
 -- why words are refused: they are no command; want of memory has no cause
 abbrev pub command_cause : CommandError → Option CommandError

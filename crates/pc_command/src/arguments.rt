@@ -8,7 +8,7 @@ ghost use Rattle.clap.specs.Values.{kind_of};
 ghost use Rattle.clap.specs.declared.error.kind.ErrorKind.TheVariants.{OutOfMemory};
 ghost use Rattle.pc_word.specs.Exact.{IsExact};
 ghost use Rattle.pc_command.specs.Matching.{matches_in};
-ghost use Rattle.pc_command.specs.Arguments.{assemble_app, compile_app, flag_argument, flag_found, flag_in, letter_argument, matches_taken, simulate_app, stat_app, view_app, word_argument, word_in};
+ghost use Rattle.pc_command.specs.Arguments.{assemble_app, check_app, compile_app, flag_argument, flag_found, flag_in, letter_argument, matches_taken, simulate_app, stat_app, view_app, word_argument, word_in};
 ghost use Rattle.pc_command.specs.Requests.{command_cause};
 ghost use Rattle.pc_command.specs.Words.{spelled};
 
@@ -68,6 +68,21 @@ pub(crate) fn assemble_app<'a>(alloc: Global) -> Result<Command<'a>, clap::Error
         .no_binary_name(true)
         .arg(word_argument(alloc, "TEXT"))?
         .arg(letter_argument(alloc, 'o', "OBJ"))?;
+    Ok(command)
+}
+
+/// `pcheck SRC OBJ CERT [--make] [--why]`.
+pub(crate) fn check_app<'a>(alloc: Global) -> Result<Command<'a>, clap::Error>
+    ensures app { IfOk result (λ command. app_of command ≡ check_app) }
+    ensures memory { IfErr result (λ error. kind_of error ≡ OutOfMemory) }
+{
+    let command = Command::new(alloc, "pcheck")
+        .no_binary_name(true)
+        .arg(word_argument(alloc, "SRC"))?
+        .arg(word_argument(alloc, "OBJ"))?
+        .arg(word_argument(alloc, "CERT"))?
+        .arg(flag_argument(alloc, "make"))?
+        .arg(flag_argument(alloc, "why"))?;
     Ok(command)
 }
 

@@ -3,6 +3,7 @@
 
 mod arguments;
 mod assemble;
+mod check;
 mod compile;
 mod error;
 mod laws;
@@ -13,6 +14,7 @@ mod stat;
 mod view;
 
 pub use assemble::{AssembleCommand, assemble_command};
+pub use check::{CheckCommand, check_command};
 pub use compile::{CompileCommand, compile_command};
 pub use error::CommandError;
 pub use laws::{laws_of_matches, laws_of_plain_words, laws_of_ranges};

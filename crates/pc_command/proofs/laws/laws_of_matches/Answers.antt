@@ -1,5 +1,5 @@
 -- The laws are lemmas.
-use Rattle.pc_command.proofs.Whole.{assemble_matches-whole, compile_matches-whole, simulate_matches-whole, stat_matches-whole, view_matches-whole}
+use Rattle.pc_command.proofs.Whole.{assemble_matches-whole, check_matches-whole, compile_matches-whole, simulate_matches-whole, stat_matches-whole, view_matches-whole}
 use Rattle.pc_command.proofs.laws.laws_of_matches.Goals as goal
 
 pub returns-clause-compiler : goal.returns-clause-compiler
@@ -16,3 +16,6 @@ returns-clause-viewer c = view_matches-whole
 
 pub returns-clause-profiler : goal.returns-clause-profiler
 returns-clause-profiler c = stat_matches-whole
+
+pub returns-clause-checker : goal.returns-clause-checker
+returns-clause-checker c = check_matches-whole
