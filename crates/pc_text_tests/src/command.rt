@@ -2,8 +2,9 @@
 
 use crate::words::words_of;
 use pc_command::{
-    CommandError, CompileCommand, SourceName, StatMode, compile_command, laws_of_matches,
-    laws_of_plain_words, laws_of_ranges, simulate_command, stat_command, view_command,
+    CheckCommand, CommandError, CompileCommand, SourceName, StatMode, check_command,
+    compile_command, laws_of_matches, laws_of_plain_words, laws_of_ranges, simulate_command,
+    stat_command, view_command,
 };
 use pc_word::{Extent, Limits};
 use std::alloc::{AllocError, Global};
@@ -126,6 +127,42 @@ static NO_STAT: [&str; 13] = [
     "y --help",
 ];
 
+/// What the words of the checker give: the source, whether a certificate is made, and whether it is
+/// told why one is refused; or that they are refused.
+static CHECKS: [(&str, Option<(SourceName<'static>, bool, bool)>); 22] = [
+    ("x.c y z", Some((SourceName::File("x.c"), false, false))),
+    ("x.c y z --make", Some((SourceName::File("x.c"), true, false))),
+    ("x.c y z --why", Some((SourceName::File("x.c"), false, true))),
+    (
+        "x.c y z --why --make",
+        Some((SourceName::File("x.c"), true, true)),
+    ),
+    (
+        "--make x.c y --why z",
+        Some((SourceName::File("x.c"), true, true)),
+    ),
+    (
+        "x.c --why y -- z",
+        Some((SourceName::File("x.c"), false, true)),
+    ),
+    ("@7 y z", Some((SourceName::Sample(7), false, false))),
+    ("--make @007 y z", Some((SourceName::Sample(7), true, false))),
+    ("", None),
+    ("x.c y", None),
+    ("x.c y --make", None),
+    ("x.c y z w", None),
+    ("x.c y z --make --make", None),
+    ("--why x.c y --why z", None),
+    ("x.c y z --make=yes", None),
+    ("x.c y z -- --make", None),
+    ("x.c y z --fast", None),
+    ("x.c y z --mak", None),
+    ("x.c -o y z", None),
+    ("x.c y z --help", None),
+    ("@ y z", None),
+    ("@+7 y z", None),
+];
+
 /// Whether the compiler answers a line so.
 fn compiles_as(
     alloc: Global,
@@ -198,6 +235,25 @@ fn compiler_refuses(rt: HostRuntime) -> Result<(), Fail> {
             compiles_as(rt.alloc(), line, Err(CommandError::NoCommand))?,
             "{line}"
         );
+    }
+    Ok(())
+}
+
+#[test]
+fn checker_takes_and_refuses(rt: HostRuntime) -> Result<(), Fail> {
+    for (line, asked) in CHECKS.iter() {
+        let words = words_of(rt.alloc(), line)?;
+        let wanted = match *asked {
+            Some((source, make, why)) => Ok(CheckCommand {
+                source,
+                object: "y",
+                certificate: "z",
+                make,
+                why,
+            }),
+            None => Err(CommandError::NoCommand),
+        };
+        assert!(rt; check_command(rt.alloc(), words.as_slice()) == wanted, "{line}");
     }
     Ok(())
 }

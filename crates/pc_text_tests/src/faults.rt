@@ -141,6 +141,29 @@ static PROFILER: [(ToolFault<'static>, &str); 5] = [
     ),
 ];
 
+/// The faults of the checker.
+static CHECKER: [(ToolFault<'static>, &str); 3] = [
+    (
+        ToolFault::NoMemory {
+            who: Speaker::Pcheck,
+        },
+        "pcheck: out of memory\n",
+    ),
+    (
+        ToolFault::Usage {
+            who: Speaker::Pcheck,
+        },
+        "usage: pcheck SRC OBJ CERT [--make] [--why]\n",
+    ),
+    (
+        ToolFault::WriteFile {
+            who: Speaker::Pcheck,
+            name: "b.cert",
+        },
+        "pcheck: write failed: b.cert\n",
+    ),
+];
+
 static SOURCES: [(SourceFault, &str); 6] = [
     (
         SourceFault::TooLong,
@@ -406,6 +429,9 @@ fn tells_faults_without_a_kind(rt: HostRuntime) -> Result<(), Fail> {
     for (fault, line) in PROFILER.iter() {
         assert!(rt; tells(alloc, *fault, line)?, "{line}");
     }
+    for (fault, line) in CHECKER.iter() {
+        assert!(rt; tells(alloc, *fault, line)?, "{line}");
+    }
     Ok(())
 }
 
@@ -475,4 +501,5 @@ fn tells_want_of_memory_without_memory(rt: HostRuntime) {
     assert!(rt; out_of_memory_line(Speaker::Pvm) == b"pvm: out of memory\n".as_slice());
     assert!(rt; out_of_memory_line(Speaker::Pview) == b"pview: out of memory\n".as_slice());
     assert!(rt; out_of_memory_line(Speaker::Pstat) == b"pstat: out of memory\n".as_slice());
+    assert!(rt; out_of_memory_line(Speaker::Pcheck) == b"pcheck: out of memory\n".as_slice());
 }
