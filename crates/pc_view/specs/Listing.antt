@@ -1,5 +1,5 @@
 -- An object as a text to be read: its limits, arrays and their data, its rows, and its notes.
-use Rattle.std.specs.Prelude.{ℕ, zero, suc, if◌then◌else◌, nat_eq, List, [], ◌∷◌, ◌++◌, length, map, codes, Option, Some, None}
+use Rattle.std.specs.Prelude.{ℕ, zero, suc, if◌then◌else◌, nat_eq, List, [], ◌∷◌, ◌++◌, length, map, codes, Option, Some, None, slice_get}
 use Rattle.std.specs.List.{count_by, flat_map}
 use Rattle.std.specs.Fmt.{decimal}
 use Rattle.pc_word.specs.Line.{line}
@@ -100,3 +100,12 @@ listing_text object = lines_text (listing_lines None object)
 -- the text of an object that was run, with how often each row ran and each of its leaves was taken
 abbrev pub tallied_listing_text : RunTally → CodeWithNotes → List ℕ
 tallied_listing_text tally object = lines_text (listing_lines (Some tally) object)
+
+-- the text of one row of a code, by its number, if it is there
+abbrev pub found_row_text : RowCode → ℕ → Option CodeRow → List ℕ
+found_row_text code number (Some row) = lines_text (row_lines None code number row)
+found_row_text code number None = []
+
+-- the text of the row with a number, or nothing where the code has no such row
+abbrev pub row_text : RowCode → ℕ → List ℕ
+row_text code number = found_row_text code number (slice_get code.rows number)

@@ -8,7 +8,7 @@ ghost use Rattle.pc_machine.specs.MachineCode.{row_of, rows_of, code_of};
 ghost use Rattle.pc_object.specs.ObjectText.{object_of, IsObject, IsChoice};
 ghost use Rattle.pc_report.specs.Report.{note_words};
 ghost use Rattle.pc_view.specs.Listing.{separator, array_words, arrays_from, register_words, leading_words, row_numbers_from};
-ghost use Rattle.pc_view.specs.Listing.{limit_words, limits_line, count_words, heading, row_lines, rows_lines, lines_text, listing_lines, listing_text, tallied_listing_text};
+ghost use Rattle.pc_view.specs.Listing.{limit_words, limits_line, count_words, heading, row_lines, rows_lines, lines_text, listing_lines, listing_text, row_text, tallied_listing_text};
 ghost use Rattle.pc_view.specs.Tally.{tallied};
 ghost use Rattle.pc_view.specs.models.Counted.{HasFew};
 ghost use Rattle.pc_view.specs.models.Rows.{CanList};
@@ -46,6 +46,36 @@ pub fn tallied_listing_text(
     ensures { IfOk result (λ text. text.items ≡ tallied_listing_text (tallied tally.entry) (object_of object.now)) }
 {
     listing(alloc, object, Some(tally))
+}
+
+/// The lines of one row as they stand in the listing of its object: its number, what it has of what it may have, the
+/// rows that lead to it, and its tree. There are none where the code has no row of this number.
+pub fn row_text(alloc: Global, object: &Object, number: u32) -> Result<Vec<u8>, AllocError>
+    requires { IsObject (object_of object.now) }
+    ensures { IfOk result (λ text. text.items ≡ row_text (object_of object.now).code number) }
+{
+    let mut text = String::new(alloc);
+    push_row_at(alloc, &mut text, &object.code, number as usize)?;
+    Ok(text.into_bytes())
+}
+
+/// Appends the lines of the row with a number to a text, if there is one.
+fn push_row_at(
+    alloc: Global,
+    text: &mut String,
+    code: &Code,
+    number: usize,
+) -> Result<(), AllocError>
+    requires few { length code.now.rows < 2 ^ 32 }
+    requires rows { CanList (length code.now.rows) code.now.rows }
+    ensures { OnOk result (string_bytes text.new ≡ string_bytes text.old ++ row_text (code_of code.now) number) }
+{
+    let rows = code.rows.as_slice();
+    let Some(row) = rows.get(number) else {
+        return Ok(());
+    };
+    let leading = leading_rows(alloc, rows)?;
+    push_row(alloc, text, code, number, row, leading.as_slice(), None)
 }
 
 /// The listing of an object, with how often its rows ran and their leaves were taken, if that is to be told.
