@@ -14,7 +14,7 @@ use Rattle.pc_window.specs.Names.{uses, parameters_of}
 use Rattle.pc_window.specs.Opening.{first_new}
 use Rattle.pc_window.specs.WindowRun.{Window}
 use Rattle.pc_window.specs.Kept.{Left}
-use Rattle.pc_window.specs.Steps.{EachLeft, Positive, IsProper, opened_window}
+use Rattle.pc_window.specs.Steps.{EachLeft, FillsTo, Positive, IsProper, opened_window}
 use Rattle.pc_window.proofs.Filling.{filling_window}
 use Rattle.pc_window.proofs.Proper.{fills_proper, cuts_proper}
 use Rattle.pc_window.proofs.Listed.{parameters-below}
@@ -26,6 +26,7 @@ use Rattle.pc_automaton.specs.Reachable.{IsLedTo, EachIsReachable}
 use Rattle.pc_pattern.specs.declared.error.SearchError.{SearchError}
 use Rattle.pc_pattern.specs.Searches.{Rules, RowFor, Settles, Search, begins, takes, StateFor, IsPattern}
 use Rattle.pc_pattern.specs.Pattern.{IsNotFound}
+use Rattle.pc_pattern.specs.Recording.{EachFilled, TakesEach, IsRecorded}
 use Rattle.pc_pattern.specs.models.Pools.{Pool, IsSmall}
 use Rattle.pc_pattern.specs.models.Leading.{Made, Unmade, unmade_memory, unmade_row}
 use Rattle.pc_pattern.proofs.Pools.{KeysStand, last_in, LeadsTo, either_side, row_leads_to}
@@ -100,13 +101,14 @@ module _ (rules : Rules) where
   EachMade members (w ∷ ws) (state ∷ states) = StateFor rules members w state × EachMade members ws states
   EachMade members _ _ = ⊥
 
-  -- the members that were taken have these states, and the others wait
-  pub record Searching (region rows : ℕ) (states : List AutomatonState) (pool : Pool) : Type 0 where
+  -- the members that were taken have these states and were filled to these windows, and the others wait
+  pub record Searching (region rows : ℕ) (states : List AutomatonState) (filled : List Window) (pool : Pool) : Type 0 where
     pub steps : ℕ
     pub took : List Window
     pub search : Search rules region steps (took ++ pool.waiting) (length states) []
     pub keys : pool.keys ≡ map key_of (took ++ pool.waiting)
     pub made : EachMade (took ++ pool.waiting) took states
+    pub fills : EachFilled took filled
     pub few : length pool.keys ≤ rows
     pub small : AllByRecursion (IsSmall rules.table (suc (length states))) pool.waiting
     pub led : (at : ℕ) → suc at < length pool.keys → IsLedTo states (suc at)
@@ -140,6 +142,13 @@ module _ (rules : Rules) where
   made_at members (v ∷ ws) (s ∷ states) h (suc number) w at = made_at members ws states h.1 number w at
   made_at members (v ∷ ws) [] h number w at = absurd h
 
+-- one window more is filled
+filled_last : (ws filled : List Window) (w v : Window) → EachFilled ws filled → FillsTo w v → EachFilled (ws ++ (w ∷ [])) (filled ++ (v ∷ []))
+filled_last [] [] w v h k = (k, tt)
+filled_last (u ∷ ws) (g ∷ filled) w v h k = (h.0, filled_last ws filled w v h.1 k)
+filled_last [] (g ∷ filled) w v h k = absurd h
+filled_last (u ∷ ws) [] w v h k = absurd h
+
 -- behind some elements a list goes on
 behind : {X : Type 0} (xs ys : List X) (i : ℕ) (y : X) → slice_get ys i ≡ Some y → slice_get (xs ++ ys) (length xs + i) ≡ Some y
 behind [] ys i y at = ap (λ (n : ℕ). slice_get ys n) (let e : 0 + i ≡ i = omega arith in e) ∙ at
@@ -156,20 +165,21 @@ module _ (rules : Rules) (keeps : TableKeeps rules.table) (few_regions : length 
   pub begins_searching : (first : Window) → 1 ≤ rows → Settles rules (opened_window rules.table rules.limits region) first
       → tree_size (whole (opened_window rules.table rules.limits region).front) ≤ most_region_nodes
       → (opened_window rules.table rules.limits region).next ≤ first_new + most_region_nodes
-      → Searching rules region rows [] (record { keys = key_of first ∷ []; waiting = first ∷ [] })
+      → Searching rules region rows [] [] (record { keys = key_of first ∷ []; waiting = first ∷ [] })
   begins_searching first some settles size names = record {
     steps = 0;
     took = [];
     search = begins refl settles;
     keys = refl;
     made = tt;
+    fills = tt;
     few = omega (arith, some);
     small = (first_small rules keeps few_regions number region first size names settles, tt);
     led = λ at below. absurd (omega (arith, below));
   }
 
-  module _ (states : List AutomatonState) (w : Window) (rest : List Window) (keys : List (List ℕ))
-      (s : Searching rules region rows states (record { keys = keys; waiting = w ∷ rest })) where
+  module _ (states : List AutomatonState) (fronts : List Window) (w : Window) (rest : List Window) (keys : List (List ℕ))
+      (s : Searching rules region rows states fronts (record { keys = keys; waiting = w ∷ rest })) where
     -- without the window that waits first
     abbrev left_pool : Pool
     left_pool = record { keys = keys; waiting = rest }
@@ -223,8 +233,8 @@ module _ (rules : Rules) (keeps : TableKeeps rules.table) (few_regions : length 
     ]
 
     -- once it has its state, the search is a member further
-    pub searching_on : (state : AutomatonState) (after : Pool) → Made rules w left_pool state after → length after.keys ≤ rows
-        → Searching rules region rows (states ++ (state ∷ [])) after
+    pub searching_on : (state : AutomatonState) (after : Pool) (m : Made rules w left_pool state after) → length after.keys ≤ rows
+        → Searching rules region rows (states ++ (state ∷ [])) (fronts ++ (m.filled ∷ [])) after
     searching_on state after m few =
         let row_for : RowFor rules w m.cut = record { filled = m.filled; fills = m.fills; cuts = m.cuts } in
         let one_more : suc (length states) ≡ length (states ++ (state ∷ [])) = (let e = length-append states (state ∷ []) in omega (arith, e)) in
@@ -249,6 +259,7 @@ module _ (rules : Rules) (keeps : TableKeeps rules.table) (few_regions : length 
               (subst (λ (k : ℕ). Search rules region looked.steps final k []) one_more looked.search);
           keys = looked.keys ∙ ap (map key_of) same;
           made = subst (λ (l : List Window). EachMade rules l (s.took ++ (w ∷ [])) (states ++ (state ∷ []))) same made;
+          fills = filled_last s.took fronts w m.filled s.fills m.fills;
           few = few;
           small = subst (λ (n : ℕ). AllByRecursion (IsSmall rules.table (suc n)) after.waiting) one_more small;
           led = led_on state after m;
@@ -262,29 +273,35 @@ module _ (rules : Rules) (keeps : TableKeeps rules.table) (few_regions : length 
         (taken cut (record { filled = filled; fills = fills; cuts = cuts }))
 
 -- where no window waits, each state but the first is reachable
-pub states_led : (rules : Rules) (region rows : ℕ) (states : List AutomatonState) (keys : List (List ℕ))
-    → Searching rules region rows states (record { keys = keys; waiting = [] }) → EachIsReachable states
-states_led rules region rows states keys s at below =
+pub states_led : (rules : Rules) (region rows : ℕ) (states : List AutomatonState) (filled : List Window) (keys : List (List ℕ))
+    → Searching rules region rows states filled (record { keys = keys; waiting = [] }) → EachIsReachable states
+states_led rules region rows states filled keys s at below =
     let many = made_many rules (s.took ++ []) s.took states s.made in
     let all = ap (λ (ks : List (List ℕ)). length ks) s.keys ∙ length-map (s.took ++ []) key_of ∙ ap (λ (ws : List Window). length ws) (append-nil s.took) in
     s.led at (omega (arith, below, many, all))
 
--- and the states are those of a pattern
-pub pattern_found : (rules : Rules) (region rows : ℕ) (states : List AutomatonState) (keys : List (List ℕ))
-    → Searching rules region rows states (record { keys = keys; waiting = [] }) → IsPattern rules region rows states
-pattern_found rules region rows states keys s =
+-- and the states are those of a pattern, of which a recorder has taken what it was told
+pub pattern_found : {R : Type 0} (told : R → Window → R → Type 0) (before after : R) (rules : Rules) (region rows : ℕ) (states : List AutomatonState) (filled : List Window) (keys : List (List ℕ))
+    → Searching rules region rows states filled (record { keys = keys; waiting = [] }) → TakesEach told before filled after
+    → IsRecorded told rules region rows states before after
+pattern_found told before after rules region rows states filled keys s taken =
     let all : s.took ++ [] ≡ s.took = append-nil s.took in
     let made = subst (λ (l : List Window). EachMade rules l s.took states) all s.made in
     let many = made_many rules s.took s.took states made in
     let few = s.few in
     let count = ap (λ (ks : List (List ℕ)). length ks) s.keys ∙ length-map (s.took ++ []) key_of ∙ ap (λ (ws : List Window). length ws) all in
     record {
-      members = s.took;
-      closed = (
-        s.steps,
-        subst (λ (n : ℕ). Search rules region s.steps s.took n []) (sym many)
-            (subst (λ (l : List Window). Search rules region s.steps l (length states) []) all s.search),
-      );
-      few = omega (arith, few, many, count);
-      automates = record { as_many = sym many; each = made_at rules s.took s.took states made };
+      pattern = record {
+        members = s.took;
+        closed = (
+          s.steps,
+          subst (λ (n : ℕ). Search rules region s.steps s.took n []) (sym many)
+              (subst (λ (l : List Window). Search rules region s.steps l (length states) []) all s.search),
+        );
+        few = omega (arith, few, many, count);
+        automates = record { as_many = sym many; each = made_at rules s.took s.took states made };
+      };
+      filled = filled;
+      fills = s.fills;
+      taken = taken;
     }

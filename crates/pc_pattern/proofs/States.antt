@@ -1,5 +1,6 @@
 -- The first member of a search, and the state of a member, as the code makes them.
 use Rattle.std.proofs.Common.{◌≡◌, ℕ, ◌+◌, ◌≤◌, ◌<◌, [], length, sym, ◌∙◌, ap, subst, arith}
+use Rattle.std.specs.Prelude.{Result, Err, IfErr}
 use Rattle.pc_word.specs.declared.item.Limits.{Limits}
 use Rattle.pc_word.specs.MachineLimits.{most_rows}
 use Rattle.pc_word.specs.Ranges.{AreLimits}
@@ -100,22 +101,24 @@ rests_able table w filled cut fills from proper limits cuts small each =
     each_and IsProper (IsRest table most_rows) (CanBringOn table) (λ v p rest. can_bring_on table most_rows v (omega arith) p rest) cut each
     (cut_rests table most_rows (window_in w) (window_in filled) cut fills cuts small (filled_grown w filled fills from proper limits))
 
--- a window's state, by its parts
-pub made_of : (rules : Rules) (w filled : StoredWindow) (pool after : Pool) (cut : Row Left) (state : AutomatonState) (next later : ℕ)
+-- a window's state, by its parts, and what holds of the window that it was filled to
+pub made_of : (rules : Rules) (w filled : StoredWindow) (pool after : Pool) (cut : Row Left) (state : AutomatonState) (next later : ℕ) (P : Window → Type 0)
     → state.parameters ≡ parameters_of (tree_in w.tree) → FillsTo (window_in w) (window_in filled) → FilledFrom w filled
     → IsProper (window_in filled) → AreLimits w.limits → Cuts rules.table (window_in filled) cut → next ≡ length filled.names.forms
-    → RowLeads rules [] next pool cut state.row later after → Made rules (window_in w) pool state after
-made_of rules w filled pool after cut state next later parameters fills from proper limits cuts first row =
-    record {
-      parameters = parameters ∙ ap (λ (t : Tree). parameters_of t) (sym (whole_in w.tree));
-      filled = window_in filled;
-      fills = fills;
-      grown = filled_grown w filled fills from proper limits;
-      cut = cut;
-      cuts = cuts;
-      later = later;
-      row = subst (λ (n : ℕ). RowLeads rules [] n pool cut state.row later after) first row;
-    }
+    → RowLeads rules [] next pool cut state.row later after → P (window_in filled) → (made : Made rules (window_in w) pool state after) × P made.filled
+made_of rules w filled pool after cut state next later P parameters fills from proper limits cuts first row taken = (
+  record {
+    parameters = parameters ∙ ap (λ (t : Tree). parameters_of t) (sym (whole_in w.tree));
+    filled = window_in filled;
+    fills = fills;
+    grown = filled_grown w filled fills from proper limits;
+    cut = cut;
+    cuts = cuts;
+    later = later;
+    row = subst (λ (n : ℕ). RowLeads rules [] n pool cut state.row later after) first row;
+  },
+  taken,
+)
 
 pub no_memory : (rules : Rules) (rows : ℕ) (w : Window) (pool : Pool) (error : SearchError) → error ≡ Memory → Unmade rules rows w pool error
 no_memory rules rows w pool error is = subst (Unmade rules rows w pool) (sym is) unmade_memory
@@ -123,5 +126,13 @@ no_memory rules rows w pool error is = subst (Unmade rules rows w pool) (sym is)
 pub unmade_of : (rules : Rules) (rows : ℕ) (w filled : Window) (pool : Pool) (cut : Row Left) (error : SearchError) → FillsTo w filled
     → Cuts rules.table filled cut → RowRefused rules rows pool cut error → Unmade rules rows w pool error
 unmade_of rules rows w filled pool cut error fills cuts refused = unmade_row fills cuts refused
+
+-- and so where the refusal is handed on
+pub refused_on : {T : Type 0} (rules : Rules) (rows : ℕ) (w filled : Window) (pool : Pool) (cut : Row Left) (result : Result T SearchError) (error : SearchError)
+    → result ≡ Err error → FillsTo w filled → Cuts rules.table filled cut → RowRefused rules rows pool cut error
+    → IfErr result (λ e. Unmade rules rows w pool e)
+refused_on {T} rules rows w filled pool cut result error is fills cuts refused =
+    subst (λ (r : Result T SearchError). IfErr r (λ e. Unmade rules rows w pool e)) (sym is)
+    (unmade_of rules rows w filled pool cut error fills cuts refused)
 
 pub ruleset states = (names_there, fillable_of, rests_able, no_memory, unmade_of)

@@ -13,6 +13,7 @@ use Rattle.pc_table.specs.StoredTable.{table_of}
 use Rattle.pc_window.specs.declared.window.Window.{Window as StoredWindow}
 use Rattle.pc_window.specs.Steps.{Positive, IsProper}
 use Rattle.pc_window.specs.StoredWindow.{window_in}
+use Rattle.pc_window.specs.WindowRun.{Window}
 use Rattle.pc_canon.specs.Key.{key_of}
 use Rattle.pc_table.proofs.StoredRegions.{as_many}
 use Rattle.pc_automaton.specs.declared.automaton.AutomatonState.{AutomatonState as StoredState}
@@ -21,7 +22,8 @@ use Rattle.pc_automaton.specs.Reachable.{EachIsReachable}
 use Rattle.pc_pattern.specs.declared.error.SearchError.{SearchError}
 use Rattle.pc_pattern.specs.declared.leading.Bounds.{Bounds}
 use Rattle.pc_pattern.specs.declared.pool.Pool.{Pool as StoredPool}
-use Rattle.pc_pattern.specs.Searches.{Rules, IsPattern}
+use Rattle.pc_pattern.specs.Searches.{Rules}
+use Rattle.pc_pattern.specs.Recording.{TakesEach, IsRecorded}
 use Rattle.pc_pattern.specs.Pattern.{IsNotFound}
 use Rattle.pc_pattern.specs.models.Pools.{keys_in, pool_in, IsSmall}
 use Rattle.pc_pattern.specs.models.Leading.{rules_within, Made, Unmade, IsFirst}
@@ -56,44 +58,44 @@ module _ (stored : RegionTable) (bounds : Bounds) (limits : AreLimits bounds.lim
 
   -- the first window waits alone
   pub begun : (first : StoredWindow) (pool : StoredPool) (states : List StoredState) → states ≡ [] → keys_in pool.keys.keys ≡ key_of (window_in first) ∷ []
-      → pool.waiting.items ≡ first ∷ [] → IsFirst rules region (window_in first) → Searching rules region rows (states_in states) (pool_in pool)
+      → pool.waiting.items ≡ first ∷ [] → IsFirst rules region (window_in first) → Searching rules region rows (states_in states) [] (pool_in pool)
   begun first pool states none keys alone is =
       let same : pool_in pool ≡ record { keys = key_of (window_in first) ∷ []; waiting = window_in first ∷ [] } =
       λ i. record { keys = keys i; waiting = map window_in (alone i) } in
-      subst (Searching rules region rows (states_in states)) (sym same)
-      (subst (λ (l : List StoredState). Searching rules region rows (states_in l) (record { keys = key_of (window_in first) ∷ []; waiting = window_in first ∷ [] }))
+      subst (Searching rules region rows (states_in states) []) (sym same)
+      (subst (λ (l : List StoredState). Searching rules region rows (states_in l) [] (record { keys = key_of (window_in first) ∷ []; waiting = window_in first ∷ [] }))
       (sym none)
       (begins_searching rules stored.kept few_regions extent.window.1 room region rows (window_in first) extent.rows.0 is.settles is.size is.names))
 
-  module _ (states : List StoredState) (old new : StoredPool) (w : StoredWindow) (first : old.waiting.items ≡ w ∷ new.waiting.items) (same : new.keys ≡ old.keys)
-      (s : Searching rules region rows (states_in states) (pool_in old)) where
-    here : Searching rules region rows (states_in states) (record { keys = keys_in new.keys.keys; waiting = window_in w ∷ map window_in new.waiting.items })
+  module _ (states : List StoredState) (filled : List Window) (old new : StoredPool) (w : StoredWindow) (first : old.waiting.items ≡ w ∷ new.waiting.items) (same : new.keys ≡ old.keys)
+      (s : Searching rules region rows (states_in states) filled (pool_in old)) where
+    here : Searching rules region rows (states_in states) filled (record { keys = keys_in new.keys.keys; waiting = window_in w ∷ map window_in new.waiting.items })
     here =
         let is : pool_in old ≡ record { keys = keys_in new.keys.keys; waiting = window_in w ∷ map window_in new.waiting.items } =
         λ i. record { keys = keys_in (sym same i).keys; waiting = map window_in (first i) } in
-        subst (Searching rules region rows (states_in states)) is s
+        subst (Searching rules region rows (states_in states) filled) is s
 
     pub turn_proper : IsProper (window_in w)
     turn_proper =
-        next_proper rules stored.kept few_regions extent.window.1 room region rows (states_in states) (window_in w) (map window_in new.waiting.items)
+        next_proper rules stored.kept few_regions extent.window.1 room region rows (states_in states) filled (window_in w) (map window_in new.waiting.items)
         (keys_in new.keys.keys) here
 
     pub turn_limits : AreLimits w.limits
     turn_limits =
         let is : w.limits ≡ bounds.limits =
-        next_limits rules stored.kept few_regions extent.window.1 room region rows (states_in states) (window_in w) (map window_in new.waiting.items)
+        next_limits rules stored.kept few_regions extent.window.1 room region rows (states_in states) filled (window_in w) (map window_in new.waiting.items)
         (keys_in new.keys.keys) here in
         subst AreLimits (sym is) limits
 
     pub turn_small : IsSmall table most_rows (window_in w)
     turn_small =
-        next_small rules stored.kept few_regions extent.window.1 room region rows (states_in states) (window_in w) (map window_in new.waiting.items)
+        next_small rules stored.kept few_regions extent.window.1 room region rows (states_in states) filled (window_in w) (map window_in new.waiting.items)
         (keys_in new.keys.keys) here extent.rows.1
 
     -- not all rows that there may be were made
     pub turn_left : length states < rows
     turn_left =
-        let left = some_left rules stored.kept few_regions extent.window.1 room region rows (states_in states) (window_in w) (map window_in new.waiting.items)
+        let left = some_left rules stored.kept few_regions extent.window.1 room region rows (states_in states) filled (window_in w) (map window_in new.waiting.items)
         (keys_in new.keys.keys) here in
         let many = length-map states state_in in
         omega (arith, left, many)
@@ -103,17 +105,17 @@ module _ (stored : RegionTable) (bounds : Bounds) (limits : AreLimits bounds.lim
         → Unmade rules rows (window_in w) (pool_in new) error → IfErr result (λ e. IsNotFound rules region rows e)
     turn_refused result error at unmade =
         subst (λ (r : Result (List StoredState) SearchError). IfErr r (λ e. IsNotFound rules region rows e)) (sym at)
-        (too_far rules stored.kept few_regions extent.window.1 room region rows (states_in states) (window_in w) (map window_in new.waiting.items)
+        (too_far rules stored.kept few_regions extent.window.1 room region rows (states_in states) filled (window_in w) (map window_in new.waiting.items)
         (keys_in new.keys.keys) here error unmade)
 
     -- the search goes on with one state more
     pub turn_on : (state : StoredState) (after : StoredPool) (states' : List AutomatonState) → states' ≡ states_in states ++ state_in state ∷ []
-        → Made rules (window_in w) (pool_in new) (state_in state) (pool_in after) → length after.keys.keys ≤ rows
-        → Searching rules region rows states' (pool_in after)
+        → (made : Made rules (window_in w) (pool_in new) (state_in state) (pool_in after)) → length after.keys.keys ≤ rows
+        → Searching rules region rows states' (filled ++ (made.filled ∷ [])) (pool_in after)
     turn_on state after states' more made within =
         let many = length-map after.keys.keys (λ key. key.bytes.items) in
-        subst (λ (l : List AutomatonState). Searching rules region rows l (pool_in after)) (sym more)
-        (searching_on rules stored.kept few_regions extent.window.1 room region rows (states_in states) (window_in w) (map window_in new.waiting.items)
+        subst (λ (l : List AutomatonState). Searching rules region rows l (filled ++ (made.filled ∷ [])) (pool_in after)) (sym more)
+        (searching_on rules stored.kept few_regions extent.window.1 room region rows (states_in states) filled (window_in w) (map window_in new.waiting.items)
         (keys_in new.keys.keys) here (state_in state) (pool_in after) made (omega (arith, many, within)))
 
     -- then fewer may be made
@@ -127,11 +129,14 @@ module _ (stored : RegionTable) (bounds : Bounds) (limits : AreLimits bounds.lim
         let many_more = length-map news state_in in
         omega (arith, left, all, one, many, many_more)
 
-  -- where no window waits, there is a pattern
-  pub turned : (states : List StoredState) (pool : StoredPool) → pool.waiting.items ≡ [] → Searching rules region rows (states_in states) (pool_in pool)
-      → IsPattern rules region rows (states_in states) × EachIsReachable (states_in states)
-  turned states pool none s =
+  -- where no window waits, there is a pattern, of which the recorder has taken what it was told
+  pub turned : {R : Type 0} (told : R → Window → R → Type 0) (before after : R) (states : List StoredState) (filled : List Window) (pool : StoredPool)
+      → pool.waiting.items ≡ [] → Searching rules region rows (states_in states) filled (pool_in pool) → TakesEach told before filled after
+      → IsRecorded told rules region rows (states_in states) before after × EachIsReachable (states_in states)
+  turned told before after states filled pool none s taken =
       let is : pool_in pool ≡ record { keys = keys_in pool.keys.keys; waiting = [] } =
       λ i. record { keys = keys_in pool.keys.keys; waiting = map window_in (none i) } in
-      let last = subst (Searching rules region rows (states_in states)) is s in
-      (pattern_found rules region rows (states_in states) (keys_in pool.keys.keys) last, states_led rules region rows (states_in states) (keys_in pool.keys.keys) last)
+      let last = subst (Searching rules region rows (states_in states) filled) is s in (
+        pattern_found told before after rules region rows (states_in states) filled (keys_in pool.keys.keys) last taken,
+        states_led rules region rows (states_in states) filled (keys_in pool.keys.keys) last,
+      )

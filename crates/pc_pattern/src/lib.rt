@@ -8,10 +8,12 @@ mod laws;
 mod leading;
 mod member_key;
 mod pool;
+mod recorder;
 mod renaming;
 mod searching;
 
 pub use error::{KeyList, SearchError};
 pub use laws::{laws_of_patterns, laws_of_searches};
 pub use member_key::MemberKey;
-pub use searching::search;
+pub use recorder::{Recorder, Unrecorded};
+pub use searching::{search, search_with};

@@ -10,14 +10,15 @@ ghost use Rattle.pc_window.specs.Steps.{IsProper};
 ghost use Rattle.pc_window.specs.StoredWindow.{tree_in, window_in};
 ghost use Rattle.pc_automaton.specs.Automaton.{state_in, states_in};
 ghost use Rattle.pc_automaton.specs.Reachable.{EachIsReachable};
-ghost use Rattle.pc_pattern.specs.Searches.{IsPattern};
 ghost use Rattle.pc_pattern.specs.Pattern.{rules_for, IsFound, IsNotFound};
+ghost use Rattle.pc_pattern.specs.Recording.{IsRecorded};
 ghost use Rattle.pc_pattern.specs.models.Pools.{pool_in, IsSmall, IsSettled};
 ghost use Rattle.pc_pattern.specs.models.Leading.{rules_within, Made, Unmade, IsFirst};
 
 use crate::error::SearchError;
 use crate::leading::{Bounds, led};
 use crate::pool::{Pool, begun};
+use crate::recorder::{Recorder, Unrecorded};
 use crate::renaming::Renaming;
 use pc_automaton::{Automaton, AutomatonState, StateList, cut_front};
 use pc_fill::fill;
@@ -51,7 +52,27 @@ pub fn search(
     ensures found { IfOk result (λ automaton. IsFound (rules_for (table_of table.now) limits extent.window) region extent.rows (states_in automaton)) }
     ensures not_found { IfErr result (λ error. IsNotFound (rules_for (table_of table.now) limits extent.window) region extent.rows error) }
 {
-    let states = closed(alloc, table, region, Bounds { limits, extent })?;
+    search_with(alloc, table, region, limits, extent, &mut Unrecorded)
+}
+
+/// Searches as `search` does, and tells a recorder the window of each state, filled, in the order of the states: the front of each
+/// is the state's row. It fails also where the recorder does.
+pub fn search_with<R: Recorder>(
+    alloc: Global,
+    table: &RegionTable,
+    region: u32,
+    limits: Limits,
+    extent: Extent,
+    recorder: &mut R,
+) -> Result<Automaton, SearchError>
+    requires there { region < length table.now.regions }
+    requires limits { AreLimits limits }
+    requires extent { IsExtent extent }
+    ensures found { IfOk result (λ automaton. IsFound (rules_for (table_of table.now) limits extent.window) region extent.rows (states_in automaton)) }
+    ensures recorded { IfOk result (λ automaton. IsRecorded R.takes (rules_for (table_of table.now) limits extent.window) region extent.rows (states_in automaton) recorder.old recorder.new) }
+    ensures not_found { IfErr result (λ error. IsNotFound (rules_for (table_of table.now) limits extent.window) region extent.rows error) }
+{
+    let states = closed(alloc, table, region, Bounds { limits, extent }, recorder)?;
     match Automaton::new(states) {
         Ok(automaton) => Ok(automaton),
         // The states of closed members are those of an automaton.
@@ -59,17 +80,18 @@ pub fn search(
     }
 }
 
-/// The states of the closed members.
-fn closed(
+/// The states of the closed members, of each of which the recorder is told.
+fn closed<R: Recorder>(
     alloc: Global,
     table: &RegionTable,
     region: u32,
     bounds: Bounds,
+    recorder: &mut R,
 ) -> Result<StateList, SearchError>
     requires there { region < length table.now.regions }
     requires limits { AreLimits bounds.limits }
     requires extent { IsExtent bounds.extent }
-    ensures pattern { IfOk result (λ states. IsPattern (rules_within (table_of table.now) bounds) region bounds.extent.rows (states_in states)) }
+    ensures recorded { IfOk result (λ states. IsRecorded R.takes (rules_within (table_of table.now) bounds) region bounds.extent.rows (states_in states) recorder.old recorder.new) }
     ensures led { IfOk result (λ states. EachIsReachable (states_in states)) }
     ensures not_found { IfErr result (λ error. IsNotFound (rules_within (table_of table.now) bounds) region bounds.extent.rows error) }
 {
@@ -77,7 +99,7 @@ fn closed(
     let mut pool = begun(alloc, first)?;
     let mut states = StateList::new(alloc);
     while let Some(window) = pool.next_waiting() {
-        let state = state(alloc, table, window, &mut pool, bounds)?;
+        let state = state(alloc, table, window, &mut pool, bounds, recorder)?;
         put_state(state, &mut states)?;
     }
     Ok(states)
@@ -113,27 +135,29 @@ fn put_state(state: AutomatonState, states: &mut StateList) -> Result<(), AllocE
     Ok(())
 }
 
-/// The state of a member. What comes of its leaves waits behind the others.
+/// The state of a member, of which the recorder is told. What comes of its leaves waits behind the others.
 #[tactic(auto, using(crate::proofs::States::states))]
-fn state(
+fn state<R: Recorder>(
     alloc: Global,
     table: &RegionTable,
     window: Window,
     pool: &mut Pool,
     bounds: Bounds,
+    recorder: &mut R,
 ) -> Result<AutomatonState, SearchError>
     requires proper { IsProper (window_in window) }
     requires settled { IsSettled window }
     requires limits { AreLimits window.limits }
     requires small { IsSmall (table_of table.now) most_rows (window_in window) }
     requires room { length pool.old.keys.keys ≤ bounds.extent.rows }
-    ensures made { IfOk result (λ state. Made (rules_within (table_of table.now) bounds) (window_in window) (pool_in pool.old) (state_in state) (pool_in pool.new)) }
+    ensures made { IfOk result (λ state. (made : Made (rules_within (table_of table.now) bounds) (window_in window) (pool_in pool.old) (state_in state) (pool_in pool.new)) × R.takes recorder.old made.filled recorder.new) }
     ensures settled { OnOk result (AllByRecursion IsSettled pool.old.waiting.items → AllByRecursion IsSettled pool.new.waiting.items) }
     ensures room { OnOk result (length pool.new.keys.keys ≤ bounds.extent.rows) }
     ensures unmade { IfErr result (λ error. Unmade (rules_within (table_of table.now) bounds) bounds.extent.rows (window_in window) (pool_in pool.old) error) }
 {
     let parameters = parameters_of(alloc, &window.tree, window.names.forms.len())?;
     let filled = fill(alloc, window)?;
+    recorder.take(alloc, &filled)?;
     let mut next = filled.names.forms.len() as u32;
     let row = cut_front(alloc, filled, table)?;
     let row = led(

@@ -1,60 +1,79 @@
-use Rattle.std.proofs.Common.{rules}
+use Rattle.std.proofs.Common.{◌++◌, ◌∷◌, [], rules}
 use Rattle.std.specs.Prelude.{◌≡◌, Err}
+use Rattle.pc_pattern.specs.Recording.{took_none, took_one_more}
 use Rattle.pc_pattern.specs.models.Pools.{IsSettled}
 use Rattle.pc_pattern.proofs.Turns.{all_of_one, all_of_more, begun, turn_proper, turn_limits, turn_small, turn_refused, turn_on, turn_smaller, turned}
 use Rattle.pc_pattern.proofs.searching.closed.Goals as goal
 
 pub loop-window-init : goal.loop-window-init
-loop-window-init c = (
-  begun c.args.table.now c.args.bounds c.requires.limits c.requires.extent c.args.region c.in_ok-first.first c.in_ok-pool.pool
-      c.new-states.result c.new-states.ensures c.in_ok-pool.ensures.keys c.in_ok-pool.ensures.waiting c.in_ok-first.ensures.first,
+loop-window-init g c = (
+  (
+    [],
+    begun c.args.table.now c.args.bounds c.requires.limits c.requires.extent c.args.region c.in_ok-first.first c.in_ok-pool.pool
+        c.new-states.result c.new-states.ensures c.in_ok-pool.ensures.keys c.in_ok-pool.ensures.waiting c.in_ok-first.ensures.first,
+    took_none,
+  ),
   all_of_one IsSettled c.in_ok-pool.pool.waiting.items c.in_ok-first.first c.in_ok-pool.ensures.waiting c.in_ok-first.ensures.settled,
 )
 
 pub state-requires-clause-proper : goal.state-requires-clause-proper
-state-requires-clause-proper c =
-    turn_proper c.args.table.now c.args.bounds c.requires.limits c.requires.extent c.args.region c.loop-window.states
-    c.loop-window.pool c.next_waiting.new.self c.in-Some.window c.in-Some.ensures.first c.in-Some.ensures.keys c.loop-window.invariant.0
+state-requires-clause-proper g c =
+    let so_far = c.loop-window.invariant.0 in
+    turn_proper c.args.table.now c.args.bounds c.requires.limits c.requires.extent c.args.region c.loop-window.states so_far.0
+    c.loop-window.pool c.next_waiting.new.self c.in-Some.window c.in-Some.ensures.first c.in-Some.ensures.keys so_far.1
 
 pub state-requires-clause-limits : goal.state-requires-clause-limits
-state-requires-clause-limits c =
-    turn_limits c.args.table.now c.args.bounds c.requires.limits c.requires.extent c.args.region c.loop-window.states
-    c.loop-window.pool c.next_waiting.new.self c.in-Some.window c.in-Some.ensures.first c.in-Some.ensures.keys c.loop-window.invariant.0
+state-requires-clause-limits g c =
+    let so_far = c.loop-window.invariant.0 in
+    turn_limits c.args.table.now c.args.bounds c.requires.limits c.requires.extent c.args.region c.loop-window.states so_far.0
+    c.loop-window.pool c.next_waiting.new.self c.in-Some.window c.in-Some.ensures.first c.in-Some.ensures.keys so_far.1
 
 pub state-requires-clause-small : goal.state-requires-clause-small
-state-requires-clause-small c =
-    turn_small c.args.table.now c.args.bounds c.requires.limits c.requires.extent c.args.region c.loop-window.states
-    c.loop-window.pool c.next_waiting.new.self c.in-Some.window c.in-Some.ensures.first c.in-Some.ensures.keys c.loop-window.invariant.0
+state-requires-clause-small g c =
+    let so_far = c.loop-window.invariant.0 in
+    turn_small c.args.table.now c.args.bounds c.requires.limits c.requires.extent c.args.region c.loop-window.states so_far.0
+    c.loop-window.pool c.next_waiting.new.self c.in-Some.window c.in-Some.ensures.first c.in-Some.ensures.keys so_far.1
 
 pub returns-in_err-state-clause-not_found : goal.returns-in_err-state-clause-not_found
-returns-in_err-state-clause-not_found c =
+returns-in_err-state-clause-not_found g c =
+    let so_far = c.loop-window.invariant.0 in
     let is : c.from_residual-in_err-state.result ≡ Err c.in_err-state.field-0.0 = search rules in
-    turn_refused c.args.table.now c.args.bounds c.requires.limits c.requires.extent c.args.region c.loop-window.states
-    c.loop-window.pool c.next_waiting.new.self c.in-Some.window c.in-Some.ensures.first c.in-Some.ensures.keys c.loop-window.invariant.0 _ _ is
+    turn_refused c.args.table.now c.args.bounds c.requires.limits c.requires.extent c.args.region c.loop-window.states so_far.0
+    c.loop-window.pool c.next_waiting.new.self c.in-Some.window c.in-Some.ensures.first c.in-Some.ensures.keys so_far.1 _ _ is
     c.in_err-state.ensures.unmade
 
 pub loop-window-smaller : goal.loop-window-smaller
-loop-window-smaller c =
-    turn_smaller c.args.table.now c.args.bounds c.requires.limits c.requires.extent c.args.region c.loop-window.states
-    c.loop-window.pool c.next_waiting.new.self c.in-Some.window c.in-Some.ensures.first c.in-Some.ensures.keys c.loop-window.invariant.0 c.in_ok-state.state
+loop-window-smaller g c =
+    let so_far = c.loop-window.invariant.0 in
+    turn_smaller c.args.table.now c.args.bounds c.requires.limits c.requires.extent c.args.region c.loop-window.states so_far.0
+    c.loop-window.pool c.next_waiting.new.self c.in-Some.window c.in-Some.ensures.first c.in-Some.ensures.keys so_far.1 c.in_ok-state.state
     c.put_state.new.states c.in_ok-put_state.ensures
 
+-- the state's window is one more that was taken
 pub loop-window-preserved : goal.loop-window-preserved
-loop-window-preserved c = (
-  turn_on c.args.table.now c.args.bounds c.requires.limits c.requires.extent c.args.region c.loop-window.states
-      c.loop-window.pool c.next_waiting.new.self c.in-Some.window c.in-Some.ensures.first c.in-Some.ensures.keys c.loop-window.invariant.0 c.in_ok-state.state
-      c.state.new.pool _ c.in_ok-put_state.ensures c.in_ok-state.ensures.made c.in_ok-state.ensures.room,
-  c.in_ok-state.ensures.settled
-      (all_of_more IsSettled c.loop-window.pool.waiting.items c.next_waiting.new.self.waiting.items c.in-Some.window c.in-Some.ensures.first
-      c.loop-window.invariant.1).1,
-)
+loop-window-preserved g c =
+    let so_far = c.loop-window.invariant.0 in
+    let made = c.in_ok-state.ensures.made in (
+      (
+        so_far.0 ++ (made.0.filled ∷ []),
+        turn_on c.args.table.now c.args.bounds c.requires.limits c.requires.extent c.args.region c.loop-window.states so_far.0
+            c.loop-window.pool c.next_waiting.new.self c.in-Some.window c.in-Some.ensures.first c.in-Some.ensures.keys so_far.1 c.in_ok-state.state
+            c.state.new.pool _ c.in_ok-put_state.ensures made.0 c.in_ok-state.ensures.room,
+        took_one_more so_far.2 made.1,
+      ),
+      c.in_ok-state.ensures.settled
+          (all_of_more IsSettled c.loop-window.pool.waiting.items c.next_waiting.new.self.waiting.items c.in-Some.window c.in-Some.ensures.first
+          c.loop-window.invariant.1).1,
+    )
 
-pub returns-clause-pattern : goal.returns-clause-pattern
-returns-clause-pattern c =
-    (turned c.args.table.now c.args.bounds c.requires.limits c.requires.extent c.args.region c.loop-window.states
-    c.loop-window.pool c.in_default.ensures.none c.loop-window.invariant.0).0
+pub returns-clause-recorded : goal.returns-clause-recorded
+returns-clause-recorded g c =
+    let so_far = c.loop-window.invariant.0 in
+    (turned c.args.table.now c.args.bounds c.requires.limits c.requires.extent c.args.region g.R.Recorder.takes c.args.recorder.now
+    c.loop-window.recorder c.loop-window.states so_far.0 c.loop-window.pool c.in_default.ensures.none so_far.1 so_far.2).0
 
 pub returns-clause-led : goal.returns-clause-led
-returns-clause-led c =
-    (turned c.args.table.now c.args.bounds c.requires.limits c.requires.extent c.args.region c.loop-window.states
-    c.loop-window.pool c.in_default.ensures.none c.loop-window.invariant.0).1
+returns-clause-led g c =
+    let so_far = c.loop-window.invariant.0 in
+    (turned c.args.table.now c.args.bounds c.requires.limits c.requires.extent c.args.region g.R.Recorder.takes c.args.recorder.now
+    c.loop-window.recorder c.loop-window.states so_far.0 c.loop-window.pool c.in_default.ensures.none so_far.1 so_far.2).1
