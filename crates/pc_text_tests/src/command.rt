@@ -131,8 +131,14 @@ static NO_STAT: [&str; 13] = [
 /// told why one is refused; or that they are refused.
 static CHECKS: [(&str, Option<(SourceName<'static>, bool, bool)>); 22] = [
     ("x.c y z", Some((SourceName::File("x.c"), false, false))),
-    ("x.c y z --make", Some((SourceName::File("x.c"), true, false))),
-    ("x.c y z --why", Some((SourceName::File("x.c"), false, true))),
+    (
+        "x.c y z --make",
+        Some((SourceName::File("x.c"), true, false)),
+    ),
+    (
+        "x.c y z --why",
+        Some((SourceName::File("x.c"), false, true)),
+    ),
     (
         "x.c y z --why --make",
         Some((SourceName::File("x.c"), true, true)),
@@ -146,7 +152,10 @@ static CHECKS: [(&str, Option<(SourceName<'static>, bool, bool)>); 22] = [
         Some((SourceName::File("x.c"), false, true)),
     ),
     ("@7 y z", Some((SourceName::Sample(7), false, false))),
-    ("--make @007 y z", Some((SourceName::Sample(7), true, false))),
+    (
+        "--make @007 y z",
+        Some((SourceName::Sample(7), true, false)),
+    ),
     ("", None),
     ("x.c y", None),
     ("x.c y --make", None),
@@ -253,7 +262,10 @@ fn checker_takes_and_refuses(rt: HostRuntime) -> Result<(), Fail> {
             }),
             None => Err(CommandError::NoCommand),
         };
-        assert!(rt; check_command(rt.alloc(), words.as_slice()) == wanted, "{line}");
+        assert!(rt;
+            check_command(rt.alloc(), words.as_slice()) == wanted,
+            "{line}"
+        );
     }
     Ok(())
 }
