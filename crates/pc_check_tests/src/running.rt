@@ -16,7 +16,14 @@ const BUDGET: u64 = 20_000;
 const ROOM: usize = 4096;
 
 /// The inputs on which objects are compared.
-const INPUTS: [&[i32]; 4] = [&[], &[3, 1, -4], &[7, 2, 2, 9, 0, 5, -1, 8], &[-2, 6]];
+const INPUTS: [&[i32]; 6] = [
+    &[],
+    &[3, 1, -4],
+    &[7, 2, 2, 9, 0, 5, -1, 8],
+    &[-2, 6],
+    &[1, -3],
+    &[4, -1, 5, -2, 3],
+];
 
 /// The text that a run sent, and what it answered.
 #[derive(Drop)]

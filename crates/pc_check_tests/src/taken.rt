@@ -53,7 +53,7 @@ const RECURRENCE: &[u8] =
     b"int main(void){int a[9];int i;a[0]=1;for(i=1;i<9;i++)a[i]=a[i-1]*3+i;print(a[8]);}";
 
 /// How many seeds are tried for each object.
-const SEEDS: u64 = 40;
+const SEEDS: u64 = 60;
 
 /// How many changed objects did something else, and how many of these were accepted all the same.
 #[derive(Clone, Copy, Debug, PartialEq, Eq)]
@@ -96,7 +96,7 @@ fn tells_changes(alloc: Global, text: &[u8], options: Options) -> Result<bool, F
     let own = certified(alloc, text, options)?;
     let accepted = own.accepted(alloc, own.object.as_slice())?;
     let all = tried_all(alloc, &own)?;
-    Ok(accepted.old && accepted.new && all.accepted == 0 && all.otherwise >= 10)
+    Ok(accepted.old && accepted.new && all.accepted == 0 && all.otherwise > 0)
 }
 
 #[test]
