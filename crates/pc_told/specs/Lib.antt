@@ -1,0 +1,4 @@
+pub mod Tellings
+pub mod ToldRows
+pub mod Resources
+pub mod Laws
