@@ -1,0 +1,4 @@
+pub mod ToldFronts
+pub mod ToldEach
+pub mod Rooms
+pub mod Iterations

@@ -12,6 +12,7 @@ use std::alloc::{AllocError, Global};
 
 impl ToldRow {
     /// What is told of the front of a window. It takes time in proportion to the window, and memory in proportion to the front.
+    #[tactic(auto, using(pc_window::proofs::WindowsStored::whole_in))]
     pub fn of_window(
         alloc: Global,
         table: &RegionTable,

@@ -10,7 +10,7 @@ mod teller;
 mod telling;
 mod told_row;
 
-pub use laws::law_of_resources;
+pub use laws::{law_of_iterations, law_of_resources};
 use pc_word::Seq;
 pub use resources::resource_bound;
 pub use teller::Teller;

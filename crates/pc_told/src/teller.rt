@@ -11,6 +11,7 @@ use pc_window::{Window, WindowError};
 use std::alloc::Global;
 
 /// A recorder that keeps, of each window that it takes, what is told of its front.
+#[derive(Drop)]
 pub struct Teller<'a> {
     /// The regions of which the windows are made.
     pub table: &'a RegionTable,

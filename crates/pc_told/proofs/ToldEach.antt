@@ -1,0 +1,96 @@
+-- A recorder that keeps what each window tells has told of each state of a search.
+use Rattle.std.proofs.Common.{◌≡◌, ℕ, zero, suc, List, [], ◌∷◌, ◌++◌, length, map, refl, sym, ◌∙◌, ap, subst}
+use Rattle.std.specs.Prelude.{Some, slice_get}
+use Rattle.std.proofs.lemmas.List.{length-map, map-append}
+use Rattle.std.proofs.Common.{append_assoc, append-nil}
+use Rattle.pc_word.specs.Row.{Row}
+use Rattle.pc_table.specs.Table.{Table}
+use Rattle.pc_window.specs.Kept.{Left}
+use Rattle.pc_window.specs.Names.{uses, parameters_of}
+use Rattle.pc_window.specs.Steps.{FillsTo, cut_row}
+use Rattle.pc_window.specs.Tree.{whole}
+use Rattle.pc_window.specs.WindowRun.{Window}
+use Rattle.pc_window.proofs.FirstJumps.{filled_one}
+use Rattle.pc_canon.specs.Pairs.{themselves}
+use Rattle.pc_automaton.specs.Automaton.{AutomatonState}
+use Rattle.pc_pattern.specs.NamedRow.{RowsNamed}
+use Rattle.pc_pattern.specs.Recording.{TakesEach, took_none, took_one_more, EachFilled, IsRecorded}
+use Rattle.pc_pattern.specs.Searches.{Rules, LeafFor, StateFor, IsPattern}
+use Rattle.pc_pattern.proofs.Keys.{map_at}
+use Rattle.pc_told.specs.Tellings.{Telling, telling_of, first_iteration}
+use Rattle.pc_told.specs.ToldRows.{IsTold, ToldAt, AreTold}
+use Rattle.pc_told.proofs.ToldFronts.{front_told}
+
+-- ---- what was taken
+
+-- the table stays, and what each window tells is put behind what was told before
+pub record Tells {R : Type 0} (table : R → Table) (rows : R → List Telling) (before after : R) (windows : List Window) : Type 0 where
+  pub stays : table after ≡ table before
+  pub told : rows after ≡ rows before ++ map (telling_of (table before)) windows
+
+module _ {R : Type 0} (takes : R → Window → R → Type 0) (table : R → Table) (rows : R → List Telling)
+    (one : (before after : R) (window : Window) → takes before window after
+        → (table after ≡ table before) × (rows after ≡ rows before ++ (telling_of (table before) window ∷ []))) where
+  pub each_told : {before after : R} {windows : List Window} → TakesEach takes before windows after → Tells table rows before after windows
+  each_told {before} took_none = record { stays = refl; told = sym (append-nil (rows before)) }
+  each_told {before} (took_one_more {windows} {mid} {after} {window} earlier last) =
+      let h = each_told earlier in
+      let more = one mid after window last in
+      record {
+        stays = more.0 ∙ h.stays;
+        told = more.1
+            ∙ ap (λ (t : Table). rows mid ++ (telling_of t window ∷ [])) h.stays
+            ∙ ap (λ (l : List Telling). l ++ (telling_of (table before) window ∷ [])) h.told
+            ∙ append_assoc (rows before) (map (telling_of (table before)) windows) (telling_of (table before) window ∷ [])
+            ∙ ap (λ (l : List Telling). rows before ++ l) (sym (map-append (telling_of (table before)) windows (window ∷ [])));
+      }
+
+-- ---- of which state
+
+filled_at : (members filled : List Window) → EachFilled members filled → (number : ℕ) (w : Window) → slice_get members number ≡ Some w
+    → (v : Window) × (slice_get filled number ≡ Some v) × FillsTo w v
+filled_at [] [] fills number w at = absurd (cc)
+filled_at [] (v ∷ filled) fills number w at = absurd fills
+filled_at (x ∷ members) [] fills number w at = absurd fills
+filled_at (x ∷ members) (v ∷ filled) fills zero w at =
+    let same : x ≡ w = cc in (v, refl, subst (λ (u : Window). FillsTo u v) same fills.0)
+filled_at (x ∷ members) (v ∷ filled) fills (suc number) w at = filled_at members filled fills.1 number w at
+
+as_many_filled : (members filled : List Window) → EachFilled members filled → length filled ≡ length members
+as_many_filled [] [] fills = refl
+as_many_filled [] (v ∷ filled) fills = absurd fills
+as_many_filled (x ∷ members) [] fills = absurd fills
+as_many_filled (x ∷ members) (v ∷ filled) fills = ap (λ (n : ℕ). suc n) (as_many_filled members filled fills.1)
+
+-- what the window tells that a member is filled to is told of its state
+is_told : (rules : Rules) (members : List Window) (w v : Window) (state : AutomatonState) → StateFor rules members w state → FillsTo w v
+    → IsTold rules members w state (telling_of rules.table v)
+is_told rules members w v state for_state fills =
+    let filled = for_state.row_for.filled in
+    let same : filled ≡ v = filled_one (uses (whole w.front)) w filled v for_state.row_for.fills fills in
+    let cut : RowsNamed (LeafFor rules members) (themselves (parameters_of (whole w.front))) (cut_row rules.table filled filled.front) state.row =
+        subst (λ (row : Row Left). RowsNamed (LeafFor rules members) (themselves (parameters_of (whole w.front))) row state.row) for_state.row_for.cuts
+        for_state.matches in
+    subst (λ (u : Window). IsTold rules members w state (telling_of rules.table u)) same
+    (record { filled = filled; fills = for_state.row_for.fills; tells = refl; matches = front_told rules members filled (first_iteration filled) filled.front cut })
+
+-- what the filled members tell is told of the states of a search
+pub are_told : (rules : Rules) (region rows : ℕ) (states : List AutomatonState) (pattern : IsPattern rules region rows states) (filled : List Window)
+    → EachFilled pattern.members filled → (tellings : List Telling) → tellings ≡ map (telling_of rules.table) filled → AreTold rules region rows states tellings
+are_told rules region rows states pattern filled fills tellings told =
+    record {
+      pattern = pattern;
+      as_many = ap (λ (l : List Telling). length l) told ∙ length-map filled (telling_of rules.table)
+          ∙ as_many_filled pattern.members filled fills ∙ sym pattern.automates.as_many;
+      each = λ number w at.
+          let here = pattern.automates.each number w at in
+          let window = filled_at pattern.members filled fills number w at in
+          record {
+            state = here.0;
+            telling = telling_of rules.table window.0;
+            there = here.1;
+            beside = subst (λ (l : List Telling). slice_get l number ≡ Some (telling_of rules.table window.0)) (sym told)
+                (map_at (telling_of rules.table) filled number window.0 window.1);
+            is = is_told rules pattern.members w window.0 here.0 here.2 window.2;
+          };
+    }
