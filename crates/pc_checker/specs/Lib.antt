@@ -1,0 +1,9 @@
+pub mod models
+pub mod Certificates
+pub mod Checker
+pub mod Compared
+pub mod FaultText
+pub mod Laws
+pub mod Outside
+pub mod RejectionText
+pub mod Told
