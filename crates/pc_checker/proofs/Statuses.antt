@@ -185,8 +185,11 @@ module _ (Passed : FlowGraph → FlowGraph → Type 0) (handed : Option CutProgr
   refused_of given what (Object_refused {request} {what = kind} source keeps faulty) e =
       inr (inl (source, held_map old.shelf.held request.object (λ bytes. HasObjectFault bytes kind) IsNoObject (λ bytes. faulty_object bytes kind) faulty))
   refused_of given what (Certificate_refused {request} {what = kind} off both keeps faulty) e =
-      inr (inr (off, both,
-      held_map old.shelf.held request.certificate (λ bytes. certificates.HasCertificateFault bytes kind) IsNoCertificate (λ bytes. faulty_certificate bytes kind) faulty))
+      inr (inr (
+        off,
+        both,
+        held_map old.shelf.held request.certificate (λ bytes. certificates.HasCertificateFault bytes kind) IsNoCertificate (λ bytes. faulty_certificate bytes kind) faulty,
+      ))
   refused_of given what _ e = absurd cc
 
   failed_of : (given : Option CheckRequest) (what : Due) → Ends given what → due_status what ≡ 5 → IsSomeAnd given (HasWriteFault Passed old new)
@@ -426,13 +429,13 @@ module _ (Passed : FlowGraph → FlowGraph → Type 0) (handed : Option CutProgr
     told_apart P it compared handed_out p =
         let out : IsHanded (Some cut) it = subst (λ (handed : Option CutProgram). IsHanded handed it) hands handed_out in
         let same_object : it.object ≡ object =
-            one_object it.object object compared.in_object.loads loads
-            (told_text old.shelf.held object_here.files request.object (object_text object) (object_text it.object) object_here.held object_here.here compared.in_object.text) in
+        one_object it.object object compared.in_object.loads loads
+        (told_text old.shelf.held object_here.files request.object (object_text object) (object_text it.object) object_here.held object_here.here compared.in_object.text) in
         let given : HoldsCertificate old.shelf.held request.certificate it.entries =
-            subst (λ make. IsGiven old.shelf.held make request.certificate it.entries) off compared.certificate in
+        subst (λ make. IsGiven old.shelf.held make request.certificate it.entries) off compared.certificate in
         let same_entries : it.entries ≡ entries =
-            one_certificate it.entries entries given.written.certificate written.certificate given.written.numbers written.numbers
-            (told_text old.shelf.held here.files request.certificate (certificate_text entries) (certificate_text it.entries) here.held here.here given.text) in
+        one_certificate it.entries entries given.written.certificate written.certificate given.written.numbers written.numbers
+        (told_text old.shelf.held here.files request.certificate (certificate_text entries) (certificate_text it.entries) here.held here.here given.text) in
         moved P it (table_of cut.table) cut.flow object entries out.0 out.1 same_object same_entries p
 
     decides_of : (code : ℕ) → (code ≡ 0 → HasAccepted Passed handed old new request) → (code ≡ 8 → HasRejected Passed handed old new request)

@@ -35,9 +35,9 @@ pub(crate) fn check_certificate<'a, H: Shelf>(
     requires { IsObject (object_of object.now) }
     ensures { MatchResult result
         (λ rejection. CertificateEnds (check_request command.entry) cut.now.flow.initial (table_of cut.now.table) (object_of object.now)
-            (H.state shelf.old) (H.state shelf.new) (due_of rejection))
+        (H.state shelf.old) (H.state shelf.new) (due_of rejection))
         (λ fault. CertificateEnds (check_request command.entry) cut.now.flow.initial (table_of cut.now.table) (object_of object.now)
-            (H.state shelf.old) (H.state shelf.new) (Failure fault)) }
+        (H.state shelf.old) (H.state shelf.new) (Failure fault)) }
 {
     if command.make {
         check_made(alloc, command, cut, object, shelf)
@@ -59,9 +59,9 @@ fn check_read<'a, H: Shelf>(
     requires read { command.make ≡ false }
     ensures { MatchResult result
         (λ rejection. CertificateEnds (check_request command.entry) cut.now.flow.initial (table_of cut.now.table) (object_of object.now)
-            (H.state shelf.old) (H.state shelf.new) (due_of rejection))
+        (H.state shelf.old) (H.state shelf.new) (due_of rejection))
         (λ fault. CertificateEnds (check_request command.entry) cut.now.flow.initial (table_of cut.now.table) (object_of object.now)
-            (H.state shelf.old) (H.state shelf.new) (Failure fault)) }
+        (H.state shelf.old) (H.state shelf.new) (Failure fault)) }
 {
     match read_certificate(alloc, command.certificate, shelf) {
         Ok(certificate) => match judge(alloc, cut, object, &certificate, command.why) {
@@ -118,9 +118,9 @@ fn check_made<'a, H: Shelf>(
     requires made { command.make ≡ true }
     ensures { MatchResult result
         (λ rejection. CertificateEnds (check_request command.entry) cut.now.flow.initial (table_of cut.now.table) (object_of object.now)
-            (H.state shelf.old) (H.state shelf.new) (due_of rejection))
+        (H.state shelf.old) (H.state shelf.new) (due_of rejection))
         (λ fault. CertificateEnds (check_request command.entry) cut.now.flow.initial (table_of cut.now.table) (object_of object.now)
-            (H.state shelf.old) (H.state shelf.new) (Failure fault)) }
+        (H.state shelf.old) (H.state shelf.new) (Failure fault)) }
 {
     match propose(alloc, &cut.table, object) {
         Ok(certificate) => check_proposed(alloc, command, cut, object, &certificate, shelf),
@@ -143,9 +143,9 @@ fn check_proposed<'a, H: Shelf>(
     requires certificate { IsCertificate certificate.now.entries }
     ensures { MatchResult result
         (λ rejection. CertificateEnds (check_request command.entry) cut.now.flow.initial (table_of cut.now.table) (object_of object.now)
-            (H.state shelf.old) (H.state shelf.new) (due_of rejection))
+        (H.state shelf.old) (H.state shelf.new) (due_of rejection))
         (λ fault. CertificateEnds (check_request command.entry) cut.now.flow.initial (table_of cut.now.table) (object_of object.now)
-            (H.state shelf.old) (H.state shelf.new) (Failure fault)) }
+        (H.state shelf.old) (H.state shelf.new) (Failure fault)) }
 {
     match judge(alloc, cut, object, certificate, command.why) {
         Ok(None) => match write_certificate(alloc, command.certificate, certificate, shelf) {

@@ -78,9 +78,9 @@ fn run_checker<'a, P: Pass, H: Shelf>(
 ) -> Result<Answer, CheckerFault<'a>>
     ensures ends { MatchResult result
         (λ answer. CheckerEnds (Chain P.does P.changed passes.old.items passes.new.items) (Some answer.cut) (H.state shelf.old) (H.state shelf.new)
-            (check_command_of (spelled words.entry.now)) (due_of answer.rejection))
+        (check_command_of (spelled words.entry.now)) (due_of answer.rejection))
         (λ fault. CheckerEnds (Chain P.does P.changed passes.old.items passes.new.items) None (H.state shelf.old) (H.state shelf.new)
-            (check_command_of (spelled words.entry.now)) (Failure fault)) }
+        (check_command_of (spelled words.entry.now)) (Failure fault)) }
     ensures named { map P.label passes.new.items ≡ map P.label passes.old.items }
     ensures ran { OnOk result (EachRose (map P.runs passes.old.items) (map P.runs passes.new.items)) }
 {
@@ -101,9 +101,9 @@ fn check_source<'a, P: Pass, H: Shelf>(
 ) -> Result<Answer, CheckerFault<'a>>
     ensures ends { MatchResult result
         (λ answer. CheckerEnds (Chain P.does P.changed passes.old.items passes.new.items) (Some answer.cut) (H.state shelf.old) (H.state shelf.new)
-            (Some (check_request command.entry)) (due_of answer.rejection))
+        (Some (check_request command.entry)) (due_of answer.rejection))
         (λ fault. CheckerEnds (Chain P.does P.changed passes.old.items passes.new.items) None (H.state shelf.old) (H.state shelf.new)
-            (Some (check_request command.entry)) (Failure fault)) }
+        (Some (check_request command.entry)) (Failure fault)) }
     ensures named { map P.label passes.new.items ≡ map P.label passes.old.items }
     ensures ran { OnOk result (EachRose (map P.runs passes.old.items) (map P.runs passes.new.items)) }
 {
@@ -122,9 +122,9 @@ fn check_cut<'a, H: Shelf>(
 ) -> Result<Answer, CheckerFault<'a>>
     ensures { MatchResult result
         (λ answer. (answer.cut ≡ cut) × ObjectEnds (check_request command.entry) cut.flow.initial (table_of cut.table)
-            (H.state shelf.old) (H.state shelf.new) (due_of answer.rejection))
+        (H.state shelf.old) (H.state shelf.new) (due_of answer.rejection))
         (λ fault. ObjectEnds (check_request command.entry) cut.flow.initial (table_of cut.table)
-            (H.state shelf.old) (H.state shelf.new) (Failure fault)) }
+        (H.state shelf.old) (H.state shelf.new) (Failure fault)) }
 {
     match check_object(alloc, command, &cut, shelf) {
         Ok(rejection) => Ok(Answer { cut, rejection }),

@@ -28,9 +28,9 @@ pub(crate) fn check_object<'a, H: Shelf>(
 ) -> Result<Option<Vec<u8>>, CheckerFault<'a>>
     ensures { MatchResult result
         (λ rejection. ObjectEnds (check_request command.entry) cut.now.flow.initial (table_of cut.now.table)
-            (H.state shelf.old) (H.state shelf.new) (due_of rejection))
+        (H.state shelf.old) (H.state shelf.new) (due_of rejection))
         (λ fault. ObjectEnds (check_request command.entry) cut.now.flow.initial (table_of cut.now.table)
-            (H.state shelf.old) (H.state shelf.new) (Failure fault)) }
+        (H.state shelf.old) (H.state shelf.new) (Failure fault)) }
 {
     match read_object(alloc, command.object, shelf) {
         Ok(object) => check_certificate(alloc, command, cut, &object, shelf),

@@ -30,7 +30,7 @@ pub(crate) fn cut_source<'a, P: Pass, H: Shelf>(
 ) -> Result<CutProgram, CheckerFault<'a>>
     ensures cut { MatchResult result
         (λ cut. IsSourceCut (Chain P.does P.changed passes.old.items passes.new.items) (H.state shelf.old).held (source_place source.entry)
-            cut.flow (table_of cut.table))
+        cut.flow (table_of cut.table))
         (λ fault. NoSource (source_place source.entry) (H.state shelf.old) (H.state shelf.new) fault) }
     ensures keeps { ReadKeeps (H.state shelf.old) (H.state shelf.new) }
     ensures named { map P.label passes.new.items ≡ map P.label passes.old.items }
