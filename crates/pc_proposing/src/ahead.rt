@@ -24,6 +24,8 @@ pub(crate) struct Ahead {
     pub(crate) steps: Vec<Step>,
     pub(crate) window: Window,
     pub(crate) parts: Vec<Part>,
+    /// The loop of a stub that was entered in a region which was opened before, if there is one.
+    pub(crate) deeper: Option<u16>,
 }
 
 /// The parts of a window, in which leaves have numbers.
@@ -64,15 +66,37 @@ pub(crate) fn begun(alloc: Global, start: Start) -> Result<Option<Ahead>, OutOfM
         steps,
         window,
         parts,
+        deeper: None,
     }))
 }
 
-/// Whether a part is a stub of a region inside a loop.
+/// Whether a part is a stub that leads on inside a loop.
 pub(crate) fn stays(start: Start, part: &Part, inside: Option<u16>) -> bool {
+    if start.crosses && part.block == 0 {
+        return false;
+    }
     match part.what {
         What::Stub(region) => start.table.is_inside(region, inside),
         _ => false,
     }
+}
+
+/// The loop of the first stub that is to be entered in a region which was opened before.
+fn deeper_loop(
+    start: Start,
+    inside: Option<u16>,
+    parts: &[Part],
+    chosen: &[Option<u32>],
+) -> Option<u16> {
+    for at in 0..parts.len() {
+        let part = &parts[at];
+        if let (Some(Some(_)), What::Stub(region)) = (chosen.get(at), part.what) {
+            if part.block > 0 && !stays(start, part, inside) {
+                return start.table.regions.get(region as usize)?.inside;
+            }
+        }
+    }
+    None
 }
 
 /// Whether a part is a copy to a name from a number on.
@@ -176,9 +200,15 @@ pub(crate) fn opened(
     push_parts(&mut parts, &window.tree)?;
     let names = ahead.window.names.forms.len();
     carry_blocks(&mut parts, names, ahead.parts.as_slice(), chosen);
+    let inside = ahead.window.inside;
+    let deeper = match ahead.deeper {
+        None => deeper_loop(start, inside, ahead.parts.as_slice(), chosen),
+        found => found,
+    };
     Ok(Some(Ahead {
         steps,
         window,
         parts,
+        deeper,
     }))
 }

@@ -94,6 +94,57 @@ fn keep(stands: &mut Stands, left: Window) -> Result<(), AllocError>
     Ok(())
 }
 
+/// The facts with which a row is reached first: of those that hold now those that held each time in an earlier try, if
+/// it began so then.
+fn known_facts(
+    alloc: Global,
+    setting: &Setting,
+    row: u32,
+    beginning: &Beginning,
+) -> Result<Vec<Fact>, OutOfMemory> {
+    if let Some(stand) = stand_before(setting, row) {
+        if stand.first_key.as_slice() == beginning.key.as_slice() {
+            let facts = common(alloc, beginning.facts.as_slice(), stand.facts.as_slice())?;
+            return Ok(facts);
+        }
+    }
+    let facts = Vec::from_slice(alloc, beginning.facts.as_slice())?;
+    Ok(facts)
+}
+
+/// The stand of a row in an earlier try.
+fn stand_before<'a>(setting: &Setting<'a>, row: u32) -> Option<&'a Stand> {
+    let before = setting.before;
+    let number = (*before.of_row.get(row as usize)?)?;
+    before.all.get(number as usize)
+}
+
+/// The stand of a row that begins so with these facts, and was reached from another.
+fn new_stand(
+    alloc: Global,
+    row: u32,
+    from: Option<u32>,
+    opening: Opening,
+    beginning: Beginning,
+    facts: Vec<Fact>,
+) -> Result<Stand, AllocError> {
+    let first_key = Vec::from_slice(alloc, beginning.key.as_slice())?;
+    Ok(Stand {
+        row,
+        from,
+        opening,
+        first_key,
+        key: beginning.key,
+        tag: beginning.tag,
+        facts,
+        steps: Vec::new(alloc),
+        planned: false,
+        misplanned: false,
+        waits: true,
+        links: Vec::new(alloc),
+    })
+}
+
 /// A row is reached first.
 fn arrive_first(
     alloc: Global,
@@ -113,26 +164,16 @@ fn arrive_first(
     let Some(beginning) = beginning_of(alloc, setting, row, opening, left, from)? else {
         return Ok(None);
     };
+    let facts = known_facts(alloc, setting, row, &beginning)?;
     let number = number_of(stands.all.len());
     if let Some(of_row) = stands.of_row.get_mut(row as usize) {
         *of_row = Some(number);
     }
     keep(stands, kept)?;
-    stands.all.push(Stand {
-        row,
-        opening,
-        key: beginning.key,
-        tag: beginning.tag,
-        facts: beginning.facts,
-        steps: Vec::new(alloc),
-        planned: false,
-        waits: true,
-        links: Vec::new(alloc),
-    })?;
-    Ok(Some(Link {
-        to: number,
-        falls: beginning.falls,
-    }))
+    let falls = beginning.falls;
+    let stand = new_stand(alloc, row, stands.current, opening, beginning, facts)?;
+    stands.all.push(stand)?;
+    Ok(Some(Link { to: number, falls }))
 }
 
 /// A row is reached again: of its facts those stay that hold here as well. Says whether its window is the same.
@@ -143,6 +184,7 @@ fn meet(alloc: Global, stand: &mut Stand, beginning: &Beginning) -> Result<bool,
     let facts = common(alloc, stand.facts.as_slice(), beginning.facts.as_slice())?;
     if facts.len() < stand.facts.len() {
         stand.waits = true;
+        stand.misplanned = stand.planned;
     }
     stand.facts = facts;
     Ok(true)
@@ -169,6 +211,7 @@ fn arrive_again(
         return Ok(None);
     };
     if !meet(alloc, stand, &beginning)? {
+        stands.missed = Some(number);
         return Ok(None);
     }
     Ok(Some(Link {

@@ -1,6 +1,7 @@
 //! What comes next into a window's front: of what is ready and what the row does, the first.
+use crate::following::{Care, Flow, Sides};
 use crate::parts::{Part, What, number_of};
-use crate::wanted::{Wants, same_but_dest};
+use crate::wanted::{Wanted, Wants, same_but_dest};
 use crate::ways::Way;
 use pc_window::NameTable;
 use pc_word::{Item, Operand, Operands};
@@ -12,8 +13,10 @@ pub(crate) struct View<'a> {
     pub(crate) ways: &'a [Way],
     pub(crate) names: &'a NameTable,
     pub(crate) wants: &'a Wants,
+    pub(crate) flow: Flow<'a>,
     /// Whether items are looked for by the nearer facts alone.
     pub(crate) near: bool,
+    pub(crate) care: Care,
 }
 
 /// What comes into the front.
@@ -158,12 +161,96 @@ impl<'a> View<'a> {
         false
     }
 
-    /// The first item of a stretch of the row that no item was found for, and that is this one.
-    fn want_of(&self, segment: u32, item: Item) -> Option<usize> {
+    /// How the tests behind the front come out on the way to a place; none where these are more than 64.
+    fn sides_above(&self, place: usize) -> Option<Sides> {
+        let mut sides = Sides::none();
+        let mut at = place;
+        for _ in 0..self.parts.len() {
+            let Some(above) = self.ways.get(at)?.above else {
+                return Some(sides);
+            };
+            let part = self.parts.get(above as usize)?;
+            if part.finished {
+                return Some(sides);
+            }
+            if matches!(part.what, What::Test(_)) {
+                sides = sides.below(at == above as usize + 1)?;
+            }
+            at = above as usize;
+        }
+        Some(sides)
+    }
+
+    /// Whether what a register holds behind a stretch of the row matters where an item stands.
+    fn matters(&self, segment: u32, register: u32, place: usize) -> bool {
+        let Some(mut sides) = self.sides_above(place) else {
+            return true;
+        };
+        let mut number = segment;
+        for _ in 0..self.wants.segments.len() {
+            let Some(it) = self.wants.segments.get(number as usize) else {
+                return true;
+            };
+            if it.on.is_none() {
+                return match it.leads_to {
+                    None => false,
+                    Some(row) => self.flow.uses(row, register, sides),
+                };
+            }
+            let Some((side, rest)) = sides.first() else {
+                return true;
+            };
+            sides = rest;
+            number = if side { it.on_yes } else { it.on_no };
+        }
+        true
+    }
+
+    /// Whether an item of the row may stand for the one at a place.
+    fn may_stand(&self, want: &Wanted, place: usize) -> bool {
+        if self.care == Care::First {
+            return true;
+        }
+        match want.item {
+            Item::Bin { dest, .. } | Item::Load { dest, .. } => {
+                self.matters(want.segment, dest, place)
+            }
+            _ => true,
+        }
+    }
+
+    /// Whether items of the row's stretch before one were found, before a place, and none behind it was found there.
+    fn is_in_order(&self, want: usize, place: usize) -> bool {
+        if self.care != Care::InOrder {
+            return true;
+        }
+        let (Some(part), Some(wanted)) = (self.parts.get(place), self.wants.items.get(want)) else {
+            return true;
+        };
+        for at in 0..self.wants.items.len() {
+            let other = &self.wants.items[at];
+            if other.segment == wanted.segment && at != want {
+                let is_before = other.tag < part.tag
+                    || (other.tag == part.tag && other.origin <= part.origin);
+                if at < want && !(other.done && is_before) {
+                    return false;
+                }
+                if at > want && other.done && is_before {
+                    return false;
+                }
+            }
+        }
+        true
+    }
+
+    /// The first item of a stretch of the row that no item was found for, and that is this one at a place.
+    fn want_of(&self, segment: u32, place: usize, item: Item) -> Option<usize> {
         for at in 0..self.wants.items.len() {
             let want = &self.wants.items[at];
             if want.segment == segment && !want.done && want.is_item(item, self.near) {
-                return Some(at);
+                if self.may_stand(want, place) && self.is_in_order(at, place) {
+                    return Some(at);
+                }
             }
         }
         None
@@ -217,7 +304,7 @@ impl<'a> View<'a> {
     fn both(&self, place: usize, top: usize, part: &Part, item: Item) -> Option<Choice> {
         let (branch, other) = self.other_side(top)?;
         let segment = self.ways.get(branch)?.segment?;
-        let want = self.want_of(segment, item)?;
+        let want = self.want_of(segment, place, item)?;
         let on_no = self.twin_of(part, item, other)?;
         if !self.is_ready(place, What::Item(item)) {
             return None;
@@ -238,7 +325,7 @@ impl<'a> View<'a> {
             at = self.ways.get(at)?.above? as usize;
             let what = self.resolved(at);
             if let What::Item(item) = what {
-                if let Some(want) = self.want_of(segment, item) {
+                if let Some(want) = self.want_of(segment, at, item) {
                     if self.is_ready(at, what) {
                         return Some(Choice::Item {
                             place: at,
@@ -263,7 +350,7 @@ impl<'a> View<'a> {
                 if let Some(both) = self.both(place, top, part, item) {
                     return Some(both);
                 }
-                let want = self.want_of(way.segment?, item)?;
+                let want = self.want_of(way.segment?, place, item)?;
                 if !self.is_ready(place, what) {
                     return None;
                 }

@@ -1,5 +1,6 @@
 //! Filling a window's front with what a row does.
 use crate::choosing::{Choice, View, part_reads, with_copied};
+use crate::following::{Care, Flow};
 use crate::moving::{bring_item, bring_test, join};
 use crate::parts::{Part, What};
 use crate::wanted::Wants;
@@ -37,9 +38,11 @@ fn step_of(ways: &[Way], choice: Choice) -> Step {
 }
 
 /// Notes that an item of the row was found.
-fn note_item(wants: &mut Wants, want: usize) {
-    if let Some(it) = wants.items.get_mut(want) {
+fn note_item(wants: &mut Wants, want: usize, parts: &[Part], place: usize) {
+    if let (Some(it), Some(part)) = (wants.items.get_mut(want), parts.get(place)) {
         it.done = true;
+        it.tag = part.tag;
+        it.origin = part.origin;
     }
 }
 
@@ -54,7 +57,7 @@ fn note_test(wants: &mut Wants, segment: usize) {
 fn do_choice(parts: &mut Vec<Part>, wants: &mut Wants, choice: Choice) -> Result<(), AllocError> {
     match choice {
         Choice::Item { place, top, want } => {
-            note_item(wants, want);
+            note_item(wants, want, parts.as_slice(), place);
             bring_item(parts, place, top)
         }
         Choice::Test {
@@ -72,7 +75,7 @@ fn do_choice(parts: &mut Vec<Part>, wants: &mut Wants, choice: Choice) -> Result
             on_no,
             want,
         } => {
-            note_item(wants, want);
+            note_item(wants, want, parts.as_slice(), on_yes);
             join(parts, branch, on_yes, other, on_no)
         }
     }
@@ -153,13 +156,22 @@ fn use_copies(
 }
 
 /// What comes next: what the nearer facts tell, or else what any tell.
-fn chosen(parts: &[Part], ways: &[Way], names: &NameTable, wants: &Wants) -> Option<Choice> {
+fn chosen(
+    parts: &[Part],
+    ways: &[Way],
+    names: &NameTable,
+    wants: &Wants,
+    flow: Flow,
+    care: Care,
+) -> Option<Choice> {
     let near = View {
         parts,
         ways,
         names,
         wants,
+        flow,
         near: true,
+        care,
     };
     match near.first_choice() {
         Some(choice) => Some(choice),
@@ -168,7 +180,9 @@ fn chosen(parts: &[Part], ways: &[Way], names: &NameTable, wants: &Wants) -> Opt
             ways,
             names,
             wants,
+            flow,
             near: false,
+            care,
         }
         .first_choice(),
     }
@@ -181,6 +195,8 @@ pub(crate) fn fill(
     parts: &mut Vec<Part>,
     names: &NameTable,
     wants: &mut Wants,
+    flow: Flow,
+    care: Care,
     uses: &mut Vec<Step>,
     steps: &mut Vec<Step>,
     blocks: &mut Vec<u32>,
@@ -188,7 +204,8 @@ pub(crate) fn fill(
     let most = wants.items.len() + wants.segments.len();
     for _ in 0..most {
         let ways = ways_of(alloc, parts.as_slice(), wants.segments.as_slice())?;
-        let Some(choice) = chosen(parts.as_slice(), ways.as_slice(), names, wants) else {
+        let Some(choice) = chosen(parts.as_slice(), ways.as_slice(), names, wants, flow, care)
+        else {
             return Ok(());
         };
         steps.push(step_of(ways.as_slice(), choice))?;

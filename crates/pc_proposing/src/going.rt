@@ -7,11 +7,14 @@ ghost use Rattle.pc_settling.specs.Stored.{IsLeft};
 ghost use Rattle.pc_proposing.specs.models.Leaving.{as_window, LeavesLeft, AllLeft};
 
 use crate::arriving::arrive;
-use crate::planning::plan;
+use crate::following::Flow;
+use crate::parts::number_of;
+use crate::planning::{RowPlan, plan};
 use crate::stands::{Link, Setting, Stand, Stands};
-use crate::start::{Start, arranged, facts_there};
+use crate::start::{Start, arranged, facts_there, key_there};
+use crate::trying::Goal;
 use crate::undone::copied_window;
-use pc_cert::Step;
+use pc_cert::{Opening, Step};
 use pc_machine::{Leaf, Tree};
 use pc_matching::{Fact, FactList, match_row};
 use pc_settling::settle;
@@ -33,6 +36,8 @@ struct Leaving<'a> {
 /// The steps of a stand, its facts on the names of its window, and that window, arranged.
 #[derive(Drop)]
 struct Prepared {
+    opening: Opening,
+    key: Vec<u8>,
     steps: Vec<Step>,
     facts: FactList,
     window: Window,
@@ -169,22 +174,59 @@ fn leaves_lead_on(
     Ok(Some(links))
 }
 
-/// The steps of a stand, where these facts hold, planned if they were not.
-fn steps_of(
+/// The plan of a stand that has none; `None` where its window has no beginning.
+fn new_plan(
     alloc: Global,
-    start: Start,
+    setting: &Setting,
     stand: &Stand,
-    facts: &[Fact],
+    left: &Window,
     row: &Tree,
-) -> Result<Vec<Step>, OutOfMemory>
-    requires limits { AreLimits start.limits }
-    requires left { IsLeft start.left.now }
+) -> Result<Option<RowPlan>, OutOfMemory>
+    requires { IsLeft left.now }
 {
-    if stand.planned {
-        let steps = Vec::from_slice(alloc, stand.steps.as_slice())?;
-        return Ok(steps);
+    let start = Start {
+        table: setting.table,
+        limits: setting.code.limits,
+        left,
+        opening: stand.opening,
+        crosses: false,
+    };
+    let Some(facts) = facts_there(alloc, start, stand.facts.as_slice())? else {
+        return Ok(None);
+    };
+    let flow = Flow {
+        rows: setting.code.rows.as_slice(),
+        live: setting.live,
+        early: setting.early,
+    };
+    let goal = Goal {
+        facts: facts.as_slice(),
+        row,
+        flow,
+        care: setting.care,
+    };
+    let plan = plan(alloc, start, goal)?;
+    Ok(Some(plan))
+}
+
+/// The plan of a stand, which is made if it has none.
+fn plan_of(
+    alloc: Global,
+    setting: &Setting,
+    stand: &Stand,
+    left: &Window,
+    row: &Tree,
+) -> Result<Option<RowPlan>, OutOfMemory>
+    requires { IsLeft left.now }
+{
+    if !stand.planned {
+        return new_plan(alloc, setting, stand, left, row);
     }
-    plan(alloc, start, facts, row)
+    let steps = Vec::from_slice(alloc, stand.steps.as_slice())?;
+    Ok(Some(RowPlan {
+        steps,
+        inside: stand.opening.inside,
+    }))
 }
 
 /// A stand's window, arranged by its steps, and what goes with it; `None` where it has no beginning, or the steps are
@@ -199,19 +241,64 @@ fn prepare(
     requires { IsLeft left.now }
     ensures { IfOk result (λ prepared. IfSome prepared (λ it. IsArrangedIn (table_of setting.now.table.now) it.window)) }
 {
+    let Some(RowPlan { steps, inside }) = plan_of(alloc, setting, stand, left, row)? else {
+        return Ok(None);
+    };
+    let opening = Opening {
+        enters: stand.opening.enters,
+        window: stand.opening.window,
+        inside,
+    };
+    prepare_by(alloc, setting, stand, left, opening, steps)
+}
+
+/// The key of a stand's window with this opening.
+fn key_with(
+    alloc: Global,
+    start: Start,
+    stand: &Stand,
+    opening: Opening,
+) -> Result<Option<Vec<u8>>, OutOfMemory>
+    requires limits { AreLimits start.limits }
+    requires left { IsLeft start.left.now }
+{
+    if opening.inside != stand.opening.inside {
+        return key_there(alloc, start);
+    }
+    let key = Vec::from_slice(alloc, stand.key.as_slice())?;
+    Ok(Some(key))
+}
+
+/// A stand's window, arranged by these steps, with this opening.
+fn prepare_by(
+    alloc: Global,
+    setting: &Setting,
+    stand: &Stand,
+    left: &Window,
+    opening: Opening,
+    steps: Vec<Step>,
+) -> Result<Option<Prepared>, OutOfMemory>
+    requires { IsLeft left.now }
+    ensures { IfOk result (λ prepared. IfSome prepared (λ it. IsArrangedIn (table_of setting.now.table.now) it.window)) }
+{
     let start = Start {
         table: setting.table,
         limits: setting.code.limits,
         left,
-        opening: stand.opening,
+        opening,
+        crosses: false,
     };
     let Some(facts) = facts_there(alloc, start, stand.facts.as_slice())? else {
         return Ok(None);
     };
-    let steps = steps_of(alloc, start, stand, facts.as_slice(), row)?;
+    let Some(key) = key_with(alloc, start, stand, opening)? else {
+        return Ok(None);
+    };
     match arranged(alloc, start, steps.as_slice())? {
         None => Ok(None),
         Some(window) => Ok(Some(Prepared {
+            opening,
+            key,
             steps,
             facts,
             window,
@@ -221,11 +308,13 @@ fn prepare(
 }
 
 /// Notes that a stand is gone on from, by these steps.
-fn note_steps(stands: &mut Stands, number: usize, steps: Vec<Step>)
+fn note_plan(stands: &mut Stands, number: usize, opening: Opening, key: Vec<u8>, steps: Vec<Step>)
     requires { AllLeft stands.old }
     ensures { AllLeft stands.new }
 {
     if let Some(stand) = stands.all.get_mut(number) {
+        stand.opening = opening;
+        stand.key = key;
         stand.steps = steps;
         stand.planned = true;
         stand.waits = false;
@@ -284,11 +373,13 @@ pub(crate) fn go_on(
     let Some(row) = row_of(setting, stands, number) else {
         return Ok(false);
     };
+    stands.current = Some(number_of(number));
     let Some(prepared) = prepared_at(alloc, setting, stands, number)? else {
         return Ok(false);
     };
     let steps = Vec::from_slice(alloc, prepared.steps.as_slice())?;
-    note_steps(stands, number, steps);
+    let key = Vec::from_slice(alloc, prepared.key.as_slice())?;
+    note_plan(stands, number, prepared.opening, key, steps);
     let Some(links) = leaves_lead_on(alloc, setting, stands, row, &prepared)? else {
         return Ok(false);
     };

@@ -6,7 +6,7 @@ use std::alloc::{AllocError, Global};
 
 /// The registers that are read on some way from a row on before they are written, where those of the rows that come
 /// next are these, and these registers are written above.
-fn read_in(tree: &Tree, written: RegisterSet, live: &[RegisterSet]) -> RegisterSet {
+pub(crate) fn read_in(tree: &Tree, written: RegisterSet, live: &[RegisterSet]) -> RegisterSet {
     match tree {
         RowTree::Step { item, next } => {
             let mut written = written;

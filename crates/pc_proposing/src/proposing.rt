@@ -7,11 +7,15 @@ ghost use Rattle.pc_proposing.specs.models.Leaving.{AllLeft};
 
 use crate::arriving::arrive_at_start;
 use crate::drafts::{Draft, add_entry, no_entries};
+use crate::following::Care;
 use crate::going::go_on;
+use crate::learning::learn;
 use crate::liveness::live_registers;
 use crate::ranks::ranks_of;
+use crate::registers::RegisterSet;
 use crate::stands::{Setting, Stand, Stands};
 use pc_cert::{Certificate, Entry, EntryList, FactList, StepList};
+use pc_machine::Code;
 use pc_object::{Note, Object};
 use pc_table::RegionTable;
 use pc_word::{Limits, MOST_MEM, MOST_OPS, MOST_TESTS, OutOfMemory};
@@ -20,8 +24,14 @@ use std::alloc::{AllocError, Global};
 /// How often stands are gone on from, for each row.
 const MOST_TURNS: usize = 64;
 
+/// How often the rows are gone through at most, each time with a region that is entered earlier.
+const MOST_LESSONS: u32 = 8;
+
 /// To how many iterations the windows of pipelined loops are unwound, in the order in which it is tried.
-const NUMBERS: [u8; 3] = [0, 4, 2];
+const NUMBERS: [u8; 4] = [0, 4, 8, 2];
+
+/// How carefully equal items are told apart, in the order in which it is tried.
+const CARES: [Care; 3] = [Care::Matters, Care::InOrder, Care::First];
 
 /// For each loop whether it is pipelined, by the notes.
 fn pipelined(alloc: Global, table: &RegionTable, notes: &[Note]) -> Result<Vec<bool>, AllocError> {
@@ -100,24 +110,73 @@ fn entries_of(alloc: Global, stands: &[Stand]) -> Result<Option<Draft>, AllocErr
     Ok(Some(draft))
 }
 
-/// The certificate of a code, where windows of pipelined loops are unwound to a number of iterations; `None` where some
-/// row cannot be gone on from, or the entries are too many to be written.
-#[tactic(auto, using(crate::proofs::Writable::certificates))]
-fn proposed(alloc: Global, setting: &Setting) -> Result<Option<Certificate>, OutOfMemory>
-    ensures { IfOk result (λ certificate. IfSome certificate (λ it. IsCertificate it.entries)) }
+/// No stands, for so many rows.
+fn no_stands(alloc: Global, rows: usize) -> Result<Stands, AllocError>
+    ensures { IfOk result AllLeft }
 {
-    let mut stands = Stands {
+    Ok(Stands {
         all: Vec::new(alloc),
         lefts: Vec::new(alloc),
-        of_row: vec![in alloc; None; setting.code.rows.len()]?,
-    };
+        of_row: vec![in alloc; None; rows]?,
+        current: None,
+        missed: None,
+    })
+}
+
+/// The certificate of a code; or the stands, where some row cannot be gone on from, or the entries are too many to be
+/// written.
+#[tactic(auto, using(crate::proofs::Writable::certificates))]
+fn proposed(alloc: Global, setting: &Setting) -> Result<Result<Certificate, Stands>, OutOfMemory>
+    ensures { IfOk result (λ outcome. IfOk outcome (λ it. IsCertificate it.entries)) }
+{
+    let mut stands = no_stands(alloc, setting.code.rows.len())?;
     if !go_through(alloc, setting, &mut stands)? {
-        return Ok(None);
+        return Ok(Err(stands));
     }
     match entries_of(alloc, stands.all.as_slice())? {
-        None => Ok(None),
-        Some(Draft { entries, .. }) => Ok(Some(Certificate { entries })),
+        None => Ok(Err(stands)),
+        Some(Draft { entries, .. }) => Ok(Ok(Certificate { entries })),
     }
+}
+
+/// The certificate of a code, where windows of pipelined loops are unwound to a number of iterations; `None` where none
+/// is found.
+fn proposed_by<'a>(
+    alloc: Global,
+    table: &'a RegionTable,
+    code: &'a Code,
+    live: &'a [RegisterSet],
+    pipelined: &'a [bool],
+    care: Care,
+    number: u8,
+) -> Result<Option<Certificate>, OutOfMemory>
+    requires limits { AreLimits code.now.limits }
+    ensures { IfOk result (λ certificate. IfSome certificate (λ it. IsCertificate it.entries)) }
+{
+    let mut early = vec![in alloc; false; code.rows.len()]?;
+    let mut before = no_stands(alloc, 0)?;
+    for _ in 0..MOST_LESSONS {
+        let setting = Setting {
+            table,
+            code,
+            live,
+            pipelined,
+            early: early.as_slice(),
+            before: &before,
+            care,
+            number,
+        };
+        match proposed(alloc, &setting)? {
+            Ok(certificate) => return Ok(Some(certificate)),
+            Err(stands) => {
+                if !learn(&stands, &mut early) {
+                    return Ok(None);
+                }
+                before = stands;
+            }
+        }
+    }
+    Ok(None)
 }
 
 /// Whether limits are those of a machine.
@@ -155,16 +214,20 @@ pub fn propose(
     }
     let live = live_registers(alloc, code.rows.as_slice())?;
     let pipelined = pipelined(alloc, table, object.notes.as_slice())?;
-    for number in NUMBERS {
-        let setting = Setting {
-            table,
-            code,
-            live: live.as_slice(),
-            pipelined: pipelined.as_slice(),
-            number,
-        };
-        if let Some(certificate) = proposed(alloc, &setting)? {
-            return Ok(certificate);
+    for care in CARES {
+        for number in NUMBERS {
+            let certificate = proposed_by(
+                alloc,
+                table,
+                code,
+                live.as_slice(),
+                pipelined.as_slice(),
+                care,
+                number,
+            )?;
+            if let Some(certificate) = certificate {
+                return Ok(certificate);
+            }
         }
     }
     Ok(Certificate {

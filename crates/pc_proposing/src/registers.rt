@@ -42,6 +42,23 @@ impl RegisterSet {
         }
     }
 
+    /// The set without a register.
+    pub(crate) fn drop_one(&mut self, register: u32) {
+        if let Some(word) = self.words.get_mut((register / 64) as usize) {
+            *word = *word & !(1u64 << (register % 64));
+        }
+    }
+
+    /// Whether it has a register of another.
+    pub(crate) fn meets(&self, other: &RegisterSet) -> bool {
+        for at in 0..4 {
+            if self.words[at] & other.words[at] != 0 {
+                return true;
+            }
+        }
+        false
+    }
+
     /// Whether it has as many and the same registers.
     pub(crate) fn is_same(&self, other: &RegisterSet) -> bool {
         for at in 0..4 {

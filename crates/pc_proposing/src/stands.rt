@@ -1,6 +1,7 @@
 //! What is known of the rows that were reached.
 ghost use Rattle.pc_word.specs.Ranges.{AreLimits};
 
+use crate::following::Care;
 use crate::registers::RegisterSet;
 use pc_cert::{Fact, Opening, Step};
 use pc_machine::Code;
@@ -16,6 +17,12 @@ pub(crate) struct Setting<'a> {
     pub(crate) live: &'a [RegisterSet],
     /// For each loop whether it is pipelined.
     pub(crate) pipelined: &'a [bool],
+    /// For each row whether regions that it needs are entered before it.
+    pub(crate) early: &'a [bool],
+    /// How carefully equal items are told apart at first.
+    pub(crate) care: Care,
+    /// The stands of an earlier try; none before the first.
+    pub(crate) before: &'a Stands,
     /// To how many iterations the windows of pipelined loops are unwound.
     pub(crate) number: u8,
     pub(crate) ghost limits: { AreLimits code.now.limits },
@@ -32,7 +39,11 @@ pub(crate) struct Link {
 #[derive(Drop)]
 pub(crate) struct Stand {
     pub(crate) row: u32,
+    /// The stand from which it was reached first.
+    pub(crate) from: Option<u32>,
     pub(crate) opening: Opening,
+    /// The key of the window that it began with where it was reached first.
+    pub(crate) first_key: Vec<u8>,
     /// The key of the window that it begins with.
     pub(crate) key: Vec<u8>,
     /// The least tag of that window.
@@ -40,6 +51,8 @@ pub(crate) struct Stand {
     pub(crate) facts: Vec<Fact>,
     pub(crate) steps: Vec<Step>,
     pub(crate) planned: bool,
+    /// Whether facts were lost since it was planned.
+    pub(crate) misplanned: bool,
     /// Whether it was reached with fewer facts since it was last gone on from.
     pub(crate) waits: bool,
     /// For each leaf of the row where it leads, if to a row.
@@ -53,4 +66,7 @@ pub(crate) struct Stands {
     /// For each stand what was left where it was reached first.
     pub(crate) lefts: Vec<Window>,
     pub(crate) of_row: Vec<Option<u32>>,
+    /// The stand that is gone on from, and the one at which something else arrived than before.
+    pub(crate) current: Option<u32>,
+    pub(crate) missed: Option<u32>,
 }

@@ -8,6 +8,7 @@ ghost use Rattle.pc_canon.specs.Keyed.{HasKey};
 
 use crate::undone::copied;
 use pc_arranging::do_steps;
+use pc_canon::{WindowKey, key};
 use pc_cert::{Fact, Opening, Step};
 use pc_matching::FactList;
 use pc_settling::{Begun, Remaining, begin, facts_of_entry};
@@ -23,6 +24,9 @@ pub(crate) struct Start<'a> {
     pub(crate) limits: Limits,
     pub(crate) left: &'a Window,
     pub(crate) opening: Opening,
+    /// Whether the loop of the opening is another than that of what was left, so that stubs which were left lead into it
+    /// from outside.
+    pub(crate) crosses: bool,
 }
 
 /// The window with which a row begins, if it does.
@@ -69,6 +73,18 @@ pub(crate) fn arranged(
         return Ok(None);
     };
     arranged_by(alloc, start.table, window, steps)
+}
+
+/// The key of the window with which a row begins, if it does.
+pub(crate) fn key_there(alloc: Global, start: Start) -> Result<Option<Vec<u8>>, OutOfMemory>
+    requires limits { AreLimits start.limits }
+    requires left { IsLeft start.left.now }
+{
+    let Some(window) = begun_at(alloc, start)? else {
+        return Ok(None);
+    };
+    let WindowKey { bytes, .. } = key(alloc, &window)?;
+    Ok(Some(bytes))
 }
 
 /// A row's facts on the names of its window.

@@ -1,6 +1,6 @@
 //! What a row does, path by path.
 use crate::parts::number_of;
-use pc_machine::Tree;
+use pc_machine::{Leaf, Tree};
 use pc_matching::{Fact, operands_match, same_operand};
 use pc_word::{Item, Operand, Operands, RowTree};
 use std::alloc::{AllocError, Global};
@@ -12,6 +12,9 @@ pub(crate) struct Wanted {
     /// The stretch of the row that it stands in.
     pub(crate) segment: u32,
     pub(crate) done: bool,
+    /// The tag and the origin of the window's item that was found for it.
+    pub(crate) tag: u32,
+    pub(crate) origin: u32,
     /// The facts of what it reads.
     facts: Vec<Fact>,
     /// The same without those by which a register that has a parameter's value has a literal's.
@@ -25,6 +28,8 @@ pub(crate) struct Segment {
     pub(crate) on: Option<Operand>,
     pub(crate) on_yes: u32,
     pub(crate) on_no: u32,
+    /// The row to which it leads, if there is no test below it and it leads to one.
+    pub(crate) leads_to: Option<u32>,
     /// Whether the test was found.
     pub(crate) done: bool,
     /// The stretch above it.
@@ -144,11 +149,63 @@ fn begin_segment(alloc: Global, wants: &mut Wants, above: Option<u32>) -> Result
         on: None,
         on_yes: 0,
         on_no: 0,
+        leads_to: None,
         done: false,
         above,
         facts: Vec::new(alloc),
     })?;
     Ok(number)
+}
+
+/// Adds an item of a stretch, unless it is a copy.
+fn add_item(
+    alloc: Global,
+    wants: &mut Wants,
+    facts: &[Fact],
+    item: Item,
+    segment: u32,
+) -> Result<(), AllocError> {
+    if matches!(item, Item::Copy { .. }) {
+        return Ok(());
+    }
+    let facts = facts_of_item(alloc, facts, item)?;
+    let near = nearer(alloc, facts.as_slice())?;
+    wants.items.push(Wanted {
+        item,
+        segment,
+        done: false,
+        tag: 0,
+        origin: 0,
+        facts,
+        near,
+    })?;
+    Ok(())
+}
+
+/// Adds the test below a stretch, and gives the stretches on its sides.
+fn add_test(
+    alloc: Global,
+    wants: &mut Wants,
+    facts: &[Fact],
+    on: Operand,
+    segment: u32,
+) -> Result<(u32, u32), AllocError> {
+    let on_yes = begin_segment(alloc, wants, Some(segment))?;
+    let on_no = begin_segment(alloc, wants, Some(segment))?;
+    if let Some(it) = wants.segments.get_mut(segment as usize) {
+        it.on = Some(on);
+        it.on_yes = on_yes;
+        it.on_no = on_no;
+        push_facts_of(&mut it.facts, facts, on)?;
+    }
+    Ok((on_yes, on_no))
+}
+
+/// Notes where a stretch leads that no test stands below.
+fn note_leaf(wants: &mut Wants, leaf: Leaf, segment: u32) {
+    if let (Leaf::Goto { row }, Some(it)) = (leaf, wants.segments.get_mut(segment as usize)) {
+        it.leads_to = Some(row);
+    }
 }
 
 /// Adds what a row does from a place on, in a stretch.
@@ -161,32 +218,18 @@ fn add_row(
 ) -> Result<(), AllocError> {
     match row {
         RowTree::Step { item, next } => {
-            if !matches!(item, Item::Copy { .. }) {
-                let facts = facts_of_item(alloc, facts, *item)?;
-                let near = nearer(alloc, facts.as_slice())?;
-                wants.items.push(Wanted {
-                    item: *item,
-                    segment,
-                    done: false,
-                    facts,
-                    near,
-                })?;
-            }
+            add_item(alloc, wants, facts, *item, segment)?;
             add_row(alloc, wants, facts, next, segment)
         }
         RowTree::Test { on, yes, no } => {
-            let on_yes = begin_segment(alloc, wants, Some(segment))?;
-            let on_no = begin_segment(alloc, wants, Some(segment))?;
-            if let Some(it) = wants.segments.get_mut(segment as usize) {
-                it.on = Some(*on);
-                it.on_yes = on_yes;
-                it.on_no = on_no;
-                push_facts_of(&mut it.facts, facts, *on)?;
-            }
+            let (on_yes, on_no) = add_test(alloc, wants, facts, *on, segment)?;
             add_row(alloc, wants, facts, yes, on_yes)?;
             add_row(alloc, wants, facts, no, on_no)
         }
-        RowTree::Leaf { .. } => Ok(()),
+        RowTree::Leaf { leaf } => {
+            note_leaf(wants, *leaf, segment);
+            Ok(())
+        }
     }
 }
 
