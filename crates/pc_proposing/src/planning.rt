@@ -98,21 +98,6 @@ pub(crate) struct RowPlan {
     pub(crate) inside: Option<u16>,
 }
 
-/// From where a row is gone on in a loop into which stubs lead that were left.
-fn into_loop<'a>(start: Start<'a>, inside: Option<u16>) -> Start<'a> {
-    Start {
-        table: start.table,
-        limits: start.limits,
-        left: start.left,
-        opening: Opening {
-            enters: start.opening.enters,
-            window: start.opening.window,
-            inside,
-        },
-        crosses: true,
-    }
-}
-
 /// The loop into which a plan enters deeper than by one region, if it is another than that of the window.
 fn other_loop(first: &Attempt, inside: Option<u16>) -> Option<u16> {
     if first.deeper == inside {
@@ -135,7 +120,18 @@ fn planned_in(
     if inside.is_none() {
         return Ok(None);
     }
-    match with_less_care(alloc, into_loop(start, inside), goal)? {
+    let crossing = Start {
+        table: start.table,
+        limits: start.limits,
+        left: start.left,
+        opening: Opening {
+            enters: start.opening.enters,
+            window: start.opening.window,
+            inside,
+        },
+        crosses: true,
+    };
+    match with_less_care(alloc, crossing, goal)? {
         Some(other) if other.missing <= missing => Ok(Some(other)),
         _ => Ok(None),
     }
