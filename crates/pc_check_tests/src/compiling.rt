@@ -37,7 +37,7 @@ pub(crate) struct Certified {
 }
 
 /// A source, compiled with all passes.
-fn compiled(alloc: Global, text: &[u8], options: Options) -> Result<Compiled, Fail>
+fn compile_source(alloc: Global, text: &[u8], options: Options) -> Result<Compiled, Fail>
     requires limits { AreLimits options.limits }
     requires extent { IsExtent options.extent }
     ensures { IfOk result (λ it. IsObject (object_of it.object)) }
@@ -57,7 +57,7 @@ fn compiled(alloc: Global, text: &[u8], options: Options) -> Result<Compiled, Fa
 }
 
 /// A source's object, with a certificate that is proposed for it.
-pub(crate) fn certified(alloc: Global, text: &[u8], options: Options) -> Result<Certified, Fail>
+pub(crate) fn certify(alloc: Global, text: &[u8], options: Options) -> Result<Certified, Fail>
     requires limits { AreLimits options.limits }
     requires extent { IsExtent options.extent }
 {
@@ -66,7 +66,7 @@ pub(crate) fn certified(alloc: Global, text: &[u8], options: Options) -> Result<
         table,
         object,
         ..
-    } = compiled(alloc, text, options)?;
+    } = compile_source(alloc, text, options)?;
     let bytes = encode(alloc, &object)?;
     let certificate = propose(alloc, &table, &object)?;
     Ok(Certified {

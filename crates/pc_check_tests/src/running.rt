@@ -48,7 +48,7 @@ fn run(alloc: Global, code: Code, input: &[i32]) -> Result<Option<Shown>, Fail> 
 }
 
 /// What the object of these bytes shows on an input; `None` where they are no object.
-fn shown(alloc: Global, bytes: &[u8], input: &[i32]) -> Result<Option<Shown>, Fail> {
+fn shown_on(alloc: Global, bytes: &[u8], input: &[i32]) -> Result<Option<Shown>, Fail> {
     if bytes.len() > MOST_OBJECT {
         return Ok(None);
     }
@@ -61,8 +61,10 @@ fn shown(alloc: Global, bytes: &[u8], input: &[i32]) -> Result<Option<Shown>, Fa
 /// Whether bytes are an object that shows something else on some input than that of other bytes.
 pub(crate) fn does_otherwise(alloc: Global, bytes: &[u8], other: &[u8]) -> Result<bool, Fail> {
     for input in INPUTS {
-        let (Some(one), Some(two)) = (shown(alloc, bytes, input)?, shown(alloc, other, input)?)
-        else {
+        let (Some(one), Some(two)) = (
+            shown_on(alloc, bytes, input)?,
+            shown_on(alloc, other, input)?,
+        ) else {
             return Ok(false);
         };
         if one.text != two.text || one.answer != two.answer {

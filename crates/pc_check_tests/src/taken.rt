@@ -2,7 +2,7 @@
 
 ghost use Rattle.pc_word.specs.Ranges.{AreLimits, IsExtent};
 
-use crate::compiling::{Certified, Options, certified};
+use crate::compiling::{Certified, Options, certify};
 use crate::mutants::mutant;
 use crate::running::does_otherwise;
 use pc_sample::sample;
@@ -57,27 +57,27 @@ const SEEDS: u64 = 60;
 
 /// How many changed objects did something else, and how many of these were accepted all the same.
 #[derive(Clone, Copy, Debug, PartialEq, Eq)]
-struct Tried {
+struct Tally {
     otherwise: u32,
     accepted: u32,
 }
 
 /// What comes of one changed object.
-fn tried(alloc: Global, own: &Certified, bytes: &[u8], so_far: Tried) -> Result<Tried, Fail> {
+fn tried(alloc: Global, own: &Certified, bytes: &[u8], so_far: Tally) -> Result<Tally, Fail> {
     if !does_otherwise(alloc, bytes, own.object.as_slice())? {
         return Ok(so_far);
     }
     let accepted = own.accepted(alloc, bytes)?;
     let wrong = u32::from(accepted.old || accepted.new);
-    Ok(Tried {
+    Ok(Tally {
         otherwise: so_far.otherwise.saturating_add(1),
         accepted: so_far.accepted.saturating_add(wrong),
     })
 }
 
 /// What comes of an object that is changed by each seed.
-fn tried_all(alloc: Global, own: &Certified) -> Result<Tried, Fail> {
-    let mut all = Tried {
+fn tried_all(alloc: Global, own: &Certified) -> Result<Tally, Fail> {
+    let mut all = Tally {
         otherwise: 0,
         accepted: 0,
     };
@@ -93,7 +93,7 @@ fn tells_changes(alloc: Global, text: &[u8], options: Options) -> Result<bool, F
     requires limits { AreLimits options.limits }
     requires extent { IsExtent options.extent }
 {
-    let own = certified(alloc, text, options)?;
+    let own = certify(alloc, text, options)?;
     let accepted = own.accepted(alloc, own.object.as_slice())?;
     let all = tried_all(alloc, &own)?;
     Ok(accepted.old && accepted.new && all.accepted == 0 && all.otherwise > 0)
