@@ -2,5 +2,5 @@ mod Proper
 mod Arrivals
 mod Rests
 mod Passed
-mod Shown
-mod Once
+pub mod Shown
+pub mod Once
