@@ -30,7 +30,7 @@ pub record Tells {R : Type 0} (table : R → Table) (rows : R → List Telling) 
 
 module _ {R : Type 0} (takes : R → Window → R → Type 0) (table : R → Table) (rows : R → List Telling)
     (one : (before after : R) (window : Window) → takes before window after
-        → (table after ≡ table before) × (rows after ≡ rows before ++ (telling_of (table before) window ∷ []))) where
+    → (table after ≡ table before) × (rows after ≡ rows before ++ (telling_of (table before) window ∷ []))) where
   pub each_told : {before after : R} {windows : List Window} → TakesEach takes before windows after → Tells table rows before after windows
   each_told {before} took_none = record { stays = refl; told = sym (append-nil (rows before)) }
   each_told {before} (took_one_more {windows} {mid} {after} {window} earlier last) =
@@ -69,8 +69,8 @@ is_told rules members w v state for_state fills =
     let filled = for_state.row_for.filled in
     let same : filled ≡ v = filled_one (uses (whole w.front)) w filled v for_state.row_for.fills fills in
     let cut : RowsNamed (LeafFor rules members) (themselves (parameters_of (whole w.front))) (cut_row rules.table filled filled.front) state.row =
-        subst (λ (row : Row Left). RowsNamed (LeafFor rules members) (themselves (parameters_of (whole w.front))) row state.row) for_state.row_for.cuts
-        for_state.matches in
+    subst (λ (row : Row Left). RowsNamed (LeafFor rules members) (themselves (parameters_of (whole w.front))) row state.row) for_state.row_for.cuts
+    for_state.matches in
     subst (λ (u : Window). IsTold rules members w state (telling_of rules.table u)) same
     (record { filled = filled; fills = for_state.row_for.fills; tells = refl; matches = front_told rules members filled (first_iteration filled) filled.front cut })
 

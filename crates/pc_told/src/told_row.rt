@@ -24,6 +24,7 @@ pub enum ToldRow {
     },
     /// The end of a path: the first iteration of which anything is left there, counted like those of items. It is none where
     /// nothing is left, at the end of the program and at a trap, and where the loop is left for a region.
+    /// The state that the leaf leads to may begin at a later one: what is left is tidied, which deletes what is used nowhere.
     Leaf {
         advance: Option<u32>,
     },
