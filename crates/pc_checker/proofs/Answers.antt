@@ -1,5 +1,5 @@
 -- What is found of a certificate.
-use Rattle.std.proofs.Common.{◌≡◌, ℤ, ℕ, ◌<◌, ◌^◌, Bool, List, length, Option, Some, None}
+use Rattle.std.proofs.Common.{◌≡◌, ℤ, ℕ, ◌<◌, ◌^◌, Bool, List, length, Some, None}
 use Rattle.std.specs.Prelude.{Vec}
 use Rattle.std.specs.declared.alloc.Global.{Global}
 use Rattle.pc_table.specs.Table.{Table}

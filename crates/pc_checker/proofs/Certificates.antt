@@ -21,7 +21,6 @@ use Rattle.pc_driver.proofs.Files.{held_map, holds}
 use Rattle.pc_checker.specs.Certificates.{AreWritten, HasCertificateFault, Long_certificate, Unread_certificate, HoldsCertificate, IsTextOf, told_of_certificate}
 use Rattle.pc_checker.specs.Checker.{LeavesCertificate}
 use Rattle.pc_checker.specs.Compared.{IsGiven}
-use Rattle.pc_checker.specs.RejectionText.{rejection_text}
 use Rattle.pc_checker.specs.Told as due
 use Rattle.pc_checker.specs.declared.fault.CertificateFault.{CertificateFault}
 use Rattle.pc_checker.specs.declared.fault.CertificateFault.TheVariants as fault

@@ -1,12 +1,10 @@
 -- How the checker ends, put together from what its steps leave.
-use Rattle.std.proofs.Common.{◌≡◌, ℤ, ℕ, ◌⊎◌, inl, inr, Bool, true, false, List, Option, Some, None, refl, sym, ◌∙◌, ap, subst, arith}
-use Rattle.std.specs.Prelude.{All, IfSome, IsSome}
-use Rattle.std.specs.Borrow.{Bor}
+use Rattle.std.proofs.Common.{◌≡◌, ℕ, ◌⊎◌, inl, inr, false, List, Option, Some, None, refl, sym, ap, subst, arith}
+use Rattle.std.specs.Prelude.{IfSome}
 use Rattle.pc_word.specs.Run.{AgreeOnInputs}
 use Rattle.pc_word.proofs.Runs.{AgreeOnInputs-sym, AgreeOnInputs-trans}
 use Rattle.pc_syntax.specs.Source.{ResolvedProgram}
 use Rattle.pc_syntax.specs.Unit.{TranslationUnit}
-use Rattle.pc_meaning.specs.SourceRun.{source_run}
 use Rattle.pc_flow.specs.FlowGraph.{FlowGraph}
 use Rattle.pc_table.specs.Table.{Table}
 use Rattle.pc_table.specs.StoredTable.{table_of}
@@ -16,10 +14,10 @@ use Rattle.pc_middle.specs.CutProgram.{IsCutProgram}
 use Rattle.pc_middle.specs.declared.program.CutProgram.{CutProgram}
 use Rattle.pc_middle.proofs.CutPrograms.{regions_agree, regions_never_fault}
 use Rattle.pc_object.specs.ObjectText.{CodeWithNotes, object_text}
-use Rattle.pc_outside.specs.Shelf.{Files, OnlyFileDiffers, ReadFaultOf, ReadKeeps, Shelved, WriteFaultOf}
+use Rattle.pc_outside.specs.Shelf.{Files, OnlyFileDiffers, ReadKeeps, Shelved}
 use Rattle.pc_command.specs.Requests.{CheckRequest}
 use Rattle.pc_cert.specs.declared.certificate.Entry.{Entry}
-use Rattle.pc_driver.specs.Files.{HasText, HoldsText}
+use Rattle.pc_driver.specs.Files.{HoldsText}
 use Rattle.pc_driver.specs.Objects.{HasObjectFault, Holds, HoldsObject, IsTextOf, Loads}
 use Rattle.pc_driver.specs.Streams.{Streamed}
 use Rattle.pc_driver.proofs.Files.{holds}
@@ -30,12 +28,11 @@ use Rattle.pc_source.proofs.CheckedTexts.{agrees, is_source}
 use Rattle.pc_source.proofs.Files.{has_holds}
 use Rattle.pc_calls.specs.Inlining.{inlined_unit}
 use Rattle.pc_check.specs.Resolution.{resolved}
-use Rattle.pc_accepted.specs.Accepted.{Accepts, Rejects}
+use Rattle.pc_accepted.specs.Accepted.{Accepts}
 use Rattle.pc_accepted.proofs.Shown.{accepted_codes_agree}
-use Rattle.pc_checker.specs.Certificates.{HasCertificateFault}
 use Rattle.pc_checker.specs.Checker.{CheckerEnds, Accepted, Rejected, Misused, Source_unread, Source_refused, Object_unread, Object_refused, Certificate_unread, Certificate_refused}
-use Rattle.pc_checker.specs.Checker.{Unwritten, Lacking, CheckerLacks, Early, Writing, CheckerPromise, HasBoth, LeavesCertificate}
-use Rattle.pc_checker.specs.Compared.{AreCompared, Compared, IsAccepted, IsGiven, IsHanded, IsRejected}
+use Rattle.pc_checker.specs.Checker.{Unwritten, Lacking, CheckerLacks, Early, Writing, CheckerPromise, HasBoth}
+use Rattle.pc_checker.specs.Compared.{AreCompared, Compared, IsAccepted, IsGiven, IsHanded}
 use Rattle.pc_checker.specs.Outside.{Surroundings}
 use Rattle.pc_checker.specs.Told.{Due, Told}
 use Rattle.pc_checker.specs.Told as due
@@ -46,7 +43,7 @@ use Rattle.pc_checker.specs.models.Steps as steps
 use Rattle.pc_checker.specs.models.Steps.{CertificateEnds, Was_accepted, Was_rejected, Was_not_read, Was_not_written, Was_lacking, Was_lacking_late}
 use Rattle.pc_checker.specs.models.Steps.{IsSourceCut, NoCertificate, NoObject, NoSource, ObjectEnds, Without_object, With_object, due_of}
 use Rattle.pc_checker.proofs.Objects.{certificate_behind}
-use Rattle.pc_checker.proofs.Shelves.{differs_behind, keeps_behind, read_fault_behind, same_keeps, write_fault_behind, written_behind}
+use Rattle.pc_checker.proofs.Shelves.{keeps_behind, read_fault_behind, same_keeps}
 
 -- ---- what an accepted certificate shows
 

@@ -1,5 +1,5 @@
 -- The object that is checked: why there is none, and what comes of it.
-use Rattle.std.proofs.Common.{◌≡◌, ℤ, ℕ, Bool, true, false, List, Option, refl, subst}
+use Rattle.std.proofs.Common.{ℤ, ℕ, Bool, true, false, List, Option, refl, subst}
 use Rattle.std.specs.Prelude.{MatchResult, Result, Ok, Err, Vec}
 use Rattle.std.specs.declared.alloc.Global.{Global}
 use Rattle.std.specs.Borrow.{Bor}
@@ -12,7 +12,7 @@ use Rattle.pc_cert.specs.CertificateText.{certificate_text}
 use Rattle.pc_report.specs.declared.fault.ObjectFault.{ObjectFault}
 use Rattle.pc_driver.specs.Files.{HoldsText}
 use Rattle.pc_driver.specs.Objects.{HasObjectFault, Holds}
-use Rattle.pc_checker.specs.Certificates.{HasCertificateFault, HoldsCertificate}
+use Rattle.pc_checker.specs.Certificates.{HasCertificateFault}
 use Rattle.pc_checker.specs.Checker.{LeavesCertificate}
 use Rattle.pc_checker.specs.Compared.{IsGiven}
 use Rattle.pc_checker.specs.Told.{Due}

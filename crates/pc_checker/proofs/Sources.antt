@@ -1,5 +1,5 @@
 -- What comes of a source: its graph and its regions, or why there are none.
-use Rattle.std.proofs.Common.{◌≡◌, ℕ, ◌<◌, ◌≤◌, List, Option, sym, subst}
+use Rattle.std.proofs.Common.{ℕ, List, Option, sym, subst}
 use Rattle.std.specs.Borrow.{Bor}
 use Rattle.pc_syntax.specs.Source.{ResolvedProgram}
 use Rattle.pc_check.specs.Sizes.{resolved_size}

@@ -16,7 +16,7 @@ use Rattle.pc_middle.specs.declared.program.CutProgram.{CutProgram}
 use Rattle.pc_object.specs.ObjectText.{CodeWithNotes, object_text}
 use Rattle.pc_object.specs.Reading.{object_reading}
 use Rattle.pc_object.proofs.ReadingLaws.{reads_text as object_again}
-use Rattle.pc_outside.specs.Shelf.{Files, OnlyFileDiffers, ReadFaultOf, ReadKeeps, Shelved, WriteFaultOf}
+use Rattle.pc_outside.specs.Shelf.{OnlyFileDiffers, ReadFaultOf, ReadKeeps, Shelved, WriteFaultOf}
 use Rattle.pc_command.specs.Requests.{CheckRequest, OfFile}
 use Rattle.pc_cert.specs.declared.certificate.Entry.{Entry}
 use Rattle.pc_cert.specs.CertificateText.{certificate_text}

@@ -1,5 +1,5 @@
 -- Which bytes are certificates, the files that hold them, and why other bytes are refused, as it is reported to a user.
-use Rattle.std.specs.Prelude.{◌≡◌, ℕ, ◌<◌, ◌≤◌, Bool, true, false, List, length, Option, Some, None, Err}
+use Rattle.std.specs.Prelude.{◌≡◌, ℕ, ◌<◌, ◌≤◌, List, length, Option, Some, None, Err}
 use Rattle.pc_word.specs.MachineLimits.{most_object}
 use Rattle.pc_outside.specs.Shelf.{Files}
 use Rattle.pc_cert.specs.declared.certificate.Entry.{Entry}
@@ -8,7 +8,7 @@ use Rattle.pc_cert.specs.declared.refusal.CertificateError.TheVariants as error
 use Rattle.pc_cert.specs.CertificateText.{IsCertificate, certificate_text}
 use Rattle.pc_cert.specs.Numbers.{HasNumbers}
 use Rattle.pc_cert.specs.Reading.{certificate_reading}
-use Rattle.pc_driver.specs.Files.{HasText, HoldsText}
+use Rattle.pc_driver.specs.Files.{HasText}
 use Rattle.pc_checker.specs.declared.fault.CertificateFault.{CertificateFault}
 use Rattle.pc_checker.specs.declared.fault.CertificateFault.TheVariants as fault
 

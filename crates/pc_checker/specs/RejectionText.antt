@@ -1,5 +1,5 @@
 -- The text by which the checker tells that a certificate is rejected.
-use Rattle.std.specs.Prelude.{ℕ, Bool, true, false, if◌then◌else◌, List, [], ◌++◌, codes, Option, Some, None, option_map, slice_get}
+use Rattle.std.specs.Prelude.{ℕ, Bool, if◌then◌else◌, List, [], ◌++◌, codes, Option, Some, None, option_map, slice_get}
 use Rattle.std.specs.Fmt.{decimal}
 use Rattle.pc_word.specs.Line.{line}
 use Rattle.pc_machine.specs.MachineCode.{RowCode}

@@ -9,7 +9,7 @@ use Rattle.pc_table.specs.Table.{Table}
 use Rattle.pc_middle.specs.CutProgram.{IsCutProgram}
 use Rattle.pc_machine.specs.MachineCode.{RowCode}
 use Rattle.pc_object.specs.ObjectText.{CodeWithNotes}
-use Rattle.pc_outside.specs.Shelf.{Files, HoldsFile, OnlyFileDiffers, ReadFaultOf, ReadKeeps, Shelved, WriteFaultOf}
+use Rattle.pc_outside.specs.Shelf.{Files, OnlyFileDiffers, ReadFaultOf, ReadKeeps, Shelved, WriteFaultOf}
 use Rattle.pc_command.specs.Requests.{CheckRequest, OfFile, SourcePlace}
 use Rattle.pc_cert.specs.declared.certificate.Entry.{Entry}
 use Rattle.pc_report.specs.declared.fault.ObjectFault.{ObjectFault}
