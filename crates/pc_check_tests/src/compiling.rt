@@ -94,8 +94,14 @@ impl Certified {
         check(alloc, &self.table, initial, code, certificate).is_ok()
     }
 
-    /// Which certificates are accepted for the object of these bytes; none where they are no object.
-    pub(crate) fn accepted(&self, alloc: Global, bytes: &[u8]) -> Result<Accepted, Fail> {
+    /// Which certificates are accepted for the object of these bytes; none where they are no object. One is proposed
+    /// only where that is asked for, since much is tried for an object that has none.
+    pub(crate) fn accepted(
+        &self,
+        alloc: Global,
+        bytes: &[u8],
+        anew: bool,
+    ) -> Result<Accepted, Fail> {
         if bytes.len() > MOST_OBJECT {
             return Ok(Accepted {
                 old: false,
@@ -108,10 +114,12 @@ impl Certified {
                 new: false,
             });
         };
+        let old = self.accepts(alloc, &object.code, &self.certificate);
+        if !anew {
+            return Ok(Accepted { old, new: false });
+        }
         let proposed = propose(alloc, &self.table, &object)?;
-        Ok(Accepted {
-            old: self.accepts(alloc, &object.code, &self.certificate),
-            new: self.accepts(alloc, &object.code, &proposed),
-        })
+        let new = self.accepts(alloc, &object.code, &proposed);
+        Ok(Accepted { old, new })
     }
 }
