@@ -11,8 +11,8 @@ use Rattle.pc_table.specs.Table.{Table}
 use Rattle.pc_table.specs.Loops.{same_loop, headed_loop}
 use Rattle.pc_compile.specs.declared.choice.Choice.{Choice}
 use Rattle.pc_object.specs.declared.object.Note.{Note}
-use Rattle.pc_compile.specs.Notes.{form_notes, choice_heading, choice_notes, loop_notes, notes_from, notes_of}
-use Rattle.pc_compile.specs.models.Heading.{heading_set, headings, without_outer, ArePlaces, choice_in, noted, note_list}
+use Rattle.pc_compile.specs.Notes.{form_notes, choice_heading, choice_notes, loop_notes, note_list, notes_from, notes_of}
+use Rattle.pc_compile.specs.models.Heading.{heading_set, headings, without_outer, ArePlaces, choice_in, noted}
 use Rattle.pc_word.proofs.Places.{set_there as set_same, set_elsewhere as set_other}
 
 -- ---- lists in which a place is set

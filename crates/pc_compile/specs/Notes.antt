@@ -37,6 +37,11 @@ form_notes line (Pipelined states rows) causes = line_note line 0 states rows �
 form_notes line Packed causes = packed_note line (slice_get causes 0) ∷ []
 form_notes line Plain causes = plain_notes line (slice_get causes (length causes - 1))
 
+-- a note that there may be, as a list
+abbrev pub note_list : Option Note → List Note
+note_list None = []
+note_list (Some note) = note ∷ []
+
 -- the first choice of a region that heads a loop
 abbrev pub choice_heading : Table → List Choice → (loop : ℕ) → Option Choice
 choice_heading table [] loop = None

@@ -1,8 +1,8 @@
 //! Notes on the loops of a program.
 ghost use Rattle.std.specs.Prelude.{◌≡◌, ◌<◌, ◌≤◌, ◌++◌, length, IfOk, IfSome, OnOk};
 ghost use Rattle.pc_table.specs.StoredTable.{table_of};
-ghost use Rattle.pc_compile.specs.Notes.{caused_note, packed_note, form_notes, choice_notes, notes_of};
-ghost use Rattle.pc_compile.specs.models.Heading.{heading_set, headings, without_outer, choice_in, noted, note_list, ArePlaces};
+ghost use Rattle.pc_compile.specs.Notes.{caused_note, packed_note, form_notes, choice_notes, note_list, notes_of};
+ghost use Rattle.pc_compile.specs.models.Heading.{heading_set, headings, without_outer, choice_in, noted, ArePlaces};
 
 use crate::choice::{Cause, Choice, Form};
 use pc_object::{Note, NoteList};
@@ -95,7 +95,7 @@ fn push_note(
 {
     match heading {
         None => Ok(()),
-        Some(at) => push_any(notes, note(line, &choices[at])),
+        Some(at) => push_any(notes, choices[at].note(line)),
     }
 }
 
@@ -109,24 +109,27 @@ fn push_any(notes: &mut NoteList, note: Option<Note>) -> Result<(), AllocError>
     }
 }
 
-/// The note of a form, and of what decided it.
-fn note(line: u32, choice: &Choice) -> Option<Note>
-    ensures { note_list result ≡ form_notes line choice.now.form choice.now.causes }
-{
-    let causes = choice.causes.as_slice();
-    match choice.form {
-        Form::Pipelined { states, rows } => Some(Note {
-            choice: 0,
-            line,
-            number: states,
-            limit: rows,
-        }),
-        Form::Packed => Some(packed_note(line, causes.first().copied())),
-        Form::Plain => match causes.last() {
-            // A plain form has a cause, that for which it is not packed.
-            None => None,
-            Some(cause) => Some(caused_note(line, 5, *cause)),
-        },
+impl Choice {
+    /// The note of what was chosen for a region that heads a loop, whose keyword stands at this line of the source: its form, and
+    /// what decided it. Whatever is chosen has one; a plain form without a cause would have none.
+    pub fn note(&self, line: u32) -> Option<Note>
+        ensures { note_list result ≡ form_notes line self.now.form self.now.causes }
+    {
+        let causes = self.causes.as_slice();
+        match self.form {
+            Form::Pipelined { states, rows } => Some(Note {
+                choice: 0,
+                line,
+                number: states,
+                limit: rows,
+            }),
+            Form::Packed => Some(packed_note(line, causes.first().copied())),
+            Form::Plain => match causes.last() {
+                // A plain form has a cause, that for which it is not packed.
+                None => None,
+                Some(cause) => Some(caused_note(line, 5, *cause)),
+            },
+        }
     }
 }
 

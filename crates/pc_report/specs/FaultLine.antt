@@ -8,7 +8,7 @@ use Rattle.pc_word.specs.declared.item.MachineFault.TheVariants.{StoreOutOfRange
 use Rattle.pc_word.specs.declared.item.TrapKind.{TrapKind}
 use Rattle.pc_word.specs.declared.item.TrapKind.TheVariants.{DivideByZero, OutOfBounds, EndOfInput}
 use Rattle.pc_report.specs.declared.fault.Speaker.{Speaker}
-use Rattle.pc_report.specs.declared.fault.Speaker.TheVariants.{Pcc, Pvm, Pview, Pstat, Pasm, Pcheck}
+use Rattle.pc_report.specs.declared.fault.Speaker.TheVariants.{Pcc, Pvm, Pview, Pstat, Pasm, Pcheck, Pexplain}
 use Rattle.pc_report.specs.declared.fault.LineFault.{LineFault}
 use Rattle.pc_report.specs.declared.fault.LineFault.TheVariants as at_line
 use Rattle.pc_report.specs.declared.fault.SourceFault.{SourceFault}
@@ -29,6 +29,7 @@ speaker_text Pview = codes "pview"
 speaker_text Pstat = codes "pstat"
 speaker_text Pasm = codes "pasm"
 speaker_text Pcheck = codes "pcheck"
+speaker_text Pexplain = codes "pexplain"
 
 -- how a program is called
 abbrev pub usage_text : Speaker → List ℕ
@@ -38,6 +39,7 @@ usage_text Pview = codes "usage: pview OBJ [--dot]"
 usage_text Pstat = codes "usage: pstat OBJ [--cycles N] [--rows | --trace N | --dot | --json]"
 usage_text Pasm = codes "usage: pasm TEXT -o OBJ"
 usage_text Pcheck = codes "usage: pcheck SRC OBJ CERT [--make] [--why]"
+usage_text Pexplain = codes "usage: pexplain SRC [--ops N] [--tests N] [--mem N] [--window N] [--rows N] [--loop LINE]"
 
 -- what is wrong at a line of a source
 abbrev pub line_fault_text : LineFault → List ℕ

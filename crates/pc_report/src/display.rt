@@ -17,6 +17,7 @@ impl fmt::Display for Speaker {
             Speaker::Pstat => "pstat",
             Speaker::Pasm => "pasm",
             Speaker::Pcheck => "pcheck",
+            Speaker::Pexplain => "pexplain",
         })
     }
 }
@@ -108,6 +109,9 @@ fn usage(who: Speaker) -> &'static str
         Speaker::Pstat => { "usage: pstat OBJ [--cycles N] [--rows | --trace N | --dot | --json]" }
         Speaker::Pasm => "usage: pasm TEXT -o OBJ",
         Speaker::Pcheck => "usage: pcheck SRC OBJ CERT [--make] [--why]",
+        Speaker::Pexplain => {
+            "usage: pexplain SRC [--ops N] [--tests N] [--mem N] [--window N] [--rows N] [--loop LINE]"
+        }
     }
 }
 

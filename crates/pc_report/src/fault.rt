@@ -17,6 +17,8 @@ pub enum Speaker {
     Pasm,
     /// The checker of certificates.
     Pcheck,
+    /// The explainer of schedules.
+    Pexplain,
 }
 
 /// Why a program does not end with success. It borrows the name of a file.

@@ -26,5 +26,6 @@ pub fn out_of_memory_line(who: Speaker) -> &'static [u8]
         Speaker::Pstat => b"pstat: out of memory\n",
         Speaker::Pasm => b"pasm: out of memory\n",
         Speaker::Pcheck => b"pcheck: out of memory\n",
+        Speaker::Pexplain => b"pexplain: out of memory\n",
     }
 }

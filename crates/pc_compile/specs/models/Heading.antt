@@ -36,8 +36,3 @@ choice_in choices (Some at) = slice_get choices at
 abbrev pub noted : List Choice → List LoopMark → List (Option ℕ) → List Note
 noted choices (mark ∷ marks) (place ∷ heading) = choice_notes mark.line (choice_in choices place) ++ noted choices marks heading
 noted choices _ _ = []
-
--- the notes that there are, at most one
-abbrev pub note_list : Option Note → List Note
-note_list None = []
-note_list (Some note) = note ∷ []
