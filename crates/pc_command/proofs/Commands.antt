@@ -4,9 +4,10 @@ use Rattle.std.specs.Prelude.{Option, Some, None, Ok, ok_or, option_and_then, op
 use Rattle.clap.specs.Walk.{Text}
 use Rattle.pc_word.specs.Exact.{IsExact, IsRefusal}
 use Rattle.pc_command.specs.Matching.{Matches}
-use Rattle.pc_command.specs.Arguments.{assemble_app, check_app, compile_app, matches_taken, simulate_app, stat_app, view_app}
+use Rattle.pc_command.specs.Arguments.{assemble_app, check_app, compile_app, explain_app, matches_taken, simulate_app, stat_app, view_app}
 use Rattle.pc_command.specs.Requests.{assemble_command_of, assemble_request_in, command_cause, compile_command_of, compile_request_in}
 use Rattle.pc_command.specs.Requests.{check_command_of, check_request_in, simulate_command_of, simulate_request_in, stat_command_of, stat_request_in, view_command_of, view_request_in}
+use Rattle.pc_command.specs.Requests.{explain_command_of, explain_request_in}
 use Rattle.pc_command.specs.declared.error.CommandError.{CommandError}
 use Rattle.pc_command.specs.declared.error.CommandError.TheVariants.{NoCommand, Memory}
 
@@ -90,7 +91,7 @@ pub stat-taken : (words : List Text) (matches : Matches) → ok_or (matches_take
 unfolding stat_command_of
 stat-taken words matches taken = rw (there _ matches taken) refl
 
--- and of the checker
+-- of the checker
 pub check-refused : (error : CommandError) (words : List Text) → IsRefusal (command_cause error) (ok_or (matches_taken check_app words) NoCommand)
     → IsRefusal (command_cause error) (ok_or (check_command_of words) NoCommand)
 unfolding check_command_of
@@ -100,3 +101,14 @@ pub check-taken : (words : List Text) (matches : Matches) → ok_or (matches_tak
     → check_command_of words ≡ check_request_in matches
 unfolding check_command_of
 check-taken words matches taken = rw (there _ matches taken) refl
+
+-- and of the explainer
+pub explain-refused : (error : CommandError) (words : List Text) → IsRefusal (command_cause error) (ok_or (matches_taken explain_app words) NoCommand)
+    → IsRefusal (command_cause error) (ok_or (explain_command_of words) NoCommand)
+unfolding explain_command_of
+explain-refused error words h = refused_on error (matches_taken explain_app words) explain_request_in h
+
+pub explain-taken : (words : List Text) (matches : Matches) → ok_or (matches_taken explain_app words) NoCommand ≡ Ok matches
+    → explain_command_of words ≡ explain_request_in matches
+unfolding explain_command_of
+explain-taken words matches taken = rw (there _ matches taken) refl

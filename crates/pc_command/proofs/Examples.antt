@@ -5,7 +5,8 @@ use Rattle.clap.proofs.OnLiterals.{clap_on_literals}
 use Rattle.pc_command.specs.Arguments.{flag_in, matches_taken, word_in}
 use Rattle.pc_command.specs.Laws.{plain_request}
 use Rattle.pc_command.specs.Options.{number_in}
-use Rattle.pc_command.specs.Requests.{CheckRequest, CompileRequest, OfFile, OfSample, SourcePlace, behind_at, compile_command_of, compile_request_in, source_place_of, simulate_command_of, simulate_request_in}
+use Rattle.pc_command.specs.Requests.{CheckRequest, CompileRequest, OfFile, OfSample, SourcePlace, behind_at, compile_command_of, compile_request_in}
+use Rattle.pc_command.specs.Requests.{explain_command_of, explain_request_in, source_place_of, simulate_command_of, simulate_request_in}
 use Rattle.pc_command.specs.Requests.{check_command_of, check_request_in}
 use Rattle.pc_command.specs.Requests.{assemble_command_of, assemble_request_in, stat_command_of, stat_request_in, view_command_of, view_request_in}
 use Rattle.pc_command.specs.declared.stat.StatMode.TheVariants as mode
@@ -17,11 +18,15 @@ plain source = plain_request source (codes "y")
 
 -- what is opened to compute them
 unfoldable requests : Unit {0}
-unfolding compile_command_of compile_request_in simulate_command_of simulate_request_in view_command_of view_request_in stat_command_of stat_request_in check_command_of check_request_in source_place_of behind_at
+unfolding compile_command_of compile_request_in simulate_command_of simulate_request_in view_command_of view_request_in stat_command_of stat_request_in
 requests = tt
 
+unfoldable sources : Unit {0}
+unfolding check_command_of check_request_in explain_command_of explain_request_in source_place_of behind_at
+sources = tt
+
 unfoldable commands : Unit {0}
-unfolding clap_on_literals argument_tables requests assemble_command_of assemble_request_in matches_taken flag_in word_in number_in
+unfolding clap_on_literals argument_tables requests sources assemble_command_of assemble_request_in matches_taken flag_in word_in number_in
 commands = tt
 
 -- words that the compiler is asked with
@@ -177,3 +182,26 @@ make-twice = refl
 no-sample : check_command_of (codes "@" ∷ (codes "y" ∷ (codes "z" ∷ []))) ≡ None
 unfolding commands
 no-sample = refl
+
+-- the explainer's
+line-given : explain_command_of (codes "--loop" ∷ (codes "1048577" ∷ (codes "x.c" ∷ (codes "--rows=1" ∷ []))))
+    ≡ Some (record {
+      source = OfFile (codes "x.c");
+      limits = record { ops = 8; tests = 3; mem = 2 };
+      extent = record { window = 4; rows = 1 };
+      line = Some 1048577;
+    })
+unfolding commands
+line-given = refl
+
+line-below : explain_command_of (codes "x.c" ∷ (codes "--loop" ∷ (codes "0" ∷ []))) ≡ None
+unfolding commands
+line-below = refl
+
+line-above : explain_command_of (codes "x.c" ∷ (codes "--loop" ∷ (codes "1048578" ∷ []))) ≡ None
+unfolding commands
+line-above = refl
+
+line-twice : explain_command_of (codes "--loop=1" ∷ (codes "x.c" ∷ (codes "--loop=2" ∷ []))) ≡ None
+unfolding commands
+line-twice = refl

@@ -5,18 +5,19 @@ use Rattle.std.specs.Str.Parse.{digits_value}
 use Rattle.std.proofs.lemmas.Bool.{ltb-true}
 use Rattle.pc_word.specs.NumberText.{is_numeral}
 use Rattle.pc_command.specs.Matching.{Matches}
-use Rattle.pc_command.specs.Arguments.{check_app, compile_app, flag_in, matches_taken, simulate_app, stat_app, word_in}
-use Rattle.pc_command.specs.Laws.{CheckCommandsAreInRange, CompileCommandsAreInRange, IsInRange, IsSourcePlace, IsStatInRange, SimulateCommandsAreInRange, StatCommandsAreInRange}
+use Rattle.pc_command.specs.Arguments.{check_app, compile_app, explain_app, flag_in, matches_taken, simulate_app, stat_app, word_in}
+use Rattle.pc_command.specs.Laws.{CheckCommandsAreInRange, CompileCommandsAreInRange, ExplainCommandsAreInRange, SimulateCommandsAreInRange, StatCommandsAreInRange}
+use Rattle.pc_command.specs.Laws.{IsExplainInRange, IsInRange, IsSourcePlace, IsStatInRange}
 use Rattle.pc_word.specs.Ranges.{AreCycles}
 use Rattle.pc_command.specs.Requests.{CompileRequest, OfFile, OfSample, SourcePlace, SimulateRequest, compile_command_of, compile_request_in}
 use Rattle.pc_command.specs.Requests.{behind_at, extent_in, limits_in, source_place_behind, source_place_of, sample_number_of, simulate_command_of, simulate_request_in}
-use Rattle.pc_command.specs.Options.{cycles_option, number_in}
-use Rattle.pc_command.specs.Requests.{CheckRequest, check_command_of, check_request_in}
+use Rattle.pc_command.specs.Options.{cycles_option, loop_option, number_found, number_in}
+use Rattle.pc_command.specs.Requests.{CheckRequest, ExplainRequest, check_command_of, check_request_in, explain_command_of, explain_request_in}
 use Rattle.pc_command.specs.Requests.{StatRequest, mode_in, mode_of, stat_command_of, stat_request_in}
 use Rattle.pc_command.specs.declared.stat.StatMode.{StatMode}
 use Rattle.pc_command.specs.declared.stat.StatMode.TheVariants as mode
 use Rattle.pc_command.proofs.Sources.{behind_at-is_none}
-use Rattle.pc_command.proofs.Ranges.{cycles-between, extent_in-range, limits_in-range, trace-between}
+use Rattle.pc_command.proofs.Ranges.{cycles-between, extent_in-range, limits_in-range, loop-between, trace-between}
 
 -- equal where they are there
 value_is : {X : Type 0} (x y : X) → Some x ≡ Some y → x ≡ y
@@ -150,3 +151,34 @@ check_command_of-range words request e = by (matches_taken check_app words) e
     by : (o : Option Matches) → option_and_then check_request_in o ≡ Some request → IsSourcePlace request.source
     by None e = absurd (cc)
     by (Some matches) e = check_request_in-range matches request e
+
+-- what the explainer's matches ask is in range
+explain_request_in-range : (matches : Matches) (request : ExplainRequest) → explain_request_in matches ≡ Some request → IsExplainInRange request
+unfolding explain_request_in
+explain_request_in-range matches request e = by (source_place_of (word_in (codes "SRC") matches)) refl e
+  where
+    by : (o : Option SourcePlace) → source_place_of (word_in (codes "SRC") matches) ≡ o → explain_request_in matches ≡ Some request
+        → IsExplainInRange request
+    by None h e = absurd (let bad : None ≡ Some request = rw h at e in cc)
+    by (Some place) h e =
+        let is = value_is _ request (rw h at e) in
+        let held : IsExplainInRange record {
+          source = place;
+          limits = limits_in matches;
+          extent = extent_in matches;
+          line = number_found loop_option matches;
+        } = record {
+          source = source_place_of-IsSourcePlace (word_in (codes "SRC") matches) place h;
+          limits = limits_in-range matches;
+          extent = extent_in-range matches;
+          line = loop-between matches;
+        } in
+        subst (λ (r : ExplainRequest). IsExplainInRange r) is held
+
+pub explain_command_of-range : ExplainCommandsAreInRange
+unfolding explain_command_of
+explain_command_of-range words request e = by (matches_taken explain_app words) e
+  where
+    by : (o : Option Matches) → option_and_then explain_request_in o ≡ Some request → IsExplainInRange request
+    by None e = absurd (cc)
+    by (Some matches) e = explain_request_in-range matches request e

@@ -4,7 +4,7 @@ use Rattle.std.specs.Option.{IsSome}
 use Rattle.clap.specs.Walk.{one_of}
 use Rattle.std.specs.Fmt.{decimal, digits}
 use Rattle.pc_command.specs.Matching.{Matches}
-use Rattle.pc_command.specs.Options.{NumberOption, number_found, number_option, ops_option, tests_option, mem_option, window_option, rows_option, cycles_option, trace_option}
+use Rattle.pc_command.specs.Options.{NumberOption, number_found, number_option, ops_option, tests_option, mem_option, window_option, rows_option, cycles_option, trace_option, loop_option}
 
 pub ops-line : ops_option ≡ number_option (codes "ops") 1 32 8
 unfolding ops_option
@@ -62,8 +62,12 @@ pub trace-text : decimal 0 ≡ codes "0"
 unfolding digits
 trace-text = refl
 
+pub loop-line : loop_option ≡ number_option (codes "loop") 1 1048577 0
+unfolding loop_option
+loop-line = refl
+
 -- what the code's table is checked against
-pub ruleset option_lines = (ops-line, ops-text, tests-line, tests-text, mem-line, mem-text, window-line, window-text, rows-line, rows-text, cycles-line, cycles-text, trace-line, trace-text)
+pub ruleset option_lines = (ops-line, ops-text, tests-line, tests-text, mem-line, mem-text, window-line, window-text, rows-line, rows-text, cycles-line, cycles-text, trace-line, trace-text, loop-line)
 
 -- a number of cycles to be traced that is there is there by the line of the code's table too
 pub trace-found : (line : NumberOption) (matches : Matches) → line ≡ trace_option
@@ -71,3 +75,10 @@ pub trace-found : (line : NumberOption) (matches : Matches) → line ≡ trace_o
     → IsSome (one_of line.name matches) → IsSome (number_found line matches)
 unfolding trace_option
 trace-found line matches is found = rw is found
+
+-- so is the line of a loop
+pub loop-found : (line : NumberOption) (matches : Matches) → line ≡ loop_option
+    → (IsSome (one_of (codes "loop") matches) → IsSome (number_found loop_option matches))
+    → IsSome (one_of line.name matches) → IsSome (number_found line matches)
+unfolding loop_option
+loop-found line matches is found = rw is found

@@ -8,11 +8,11 @@ use Rattle.clap.specs.Walk.{Held, Row, Rule, Text, Waiting, Walk, after_step, id
 use Rattle.clap.specs.declared.builder.value_parser.Reading.TheVariants.{AsWritten}
 use Rattle.clap.specs.declared.parser.matches.ValueSource.TheVariants.{CommandLine}
 use Rattle.clap.proofs.OnLiterals.{clap_on_literals}
-use Rattle.pc_command.specs.Arguments.{assemble_app, compile_app, flag_in, matches_taken, simulate_app, stat_app, view_app, word_in}
-use Rattle.pc_command.specs.Laws.{IsPlainWord, NoWordsAreNoCommand, PlainWordProfiles, PlainWordSimulates, PlainWordViews, PlainWordsAssemble, PlainWordsCompile}
+use Rattle.pc_command.specs.Arguments.{assemble_app, compile_app, explain_app, flag_in, matches_taken, simulate_app, stat_app, view_app, word_in}
+use Rattle.pc_command.specs.Laws.{IsPlainWord, NoWordsAreNoCommand, PlainWordExplains, PlainWordProfiles, PlainWordSimulates, PlainWordViews, PlainWordsAssemble, PlainWordsCompile}
 use Rattle.pc_command.specs.Options.{number_in}
 use Rattle.pc_command.specs.Requests.{assemble_command_of, assemble_request_in, compile_command_of, compile_request_in}
-use Rattle.pc_command.specs.Requests.{simulate_command_of, simulate_request_in}
+use Rattle.pc_command.specs.Requests.{explain_command_of, explain_request_in, simulate_command_of, simulate_request_in}
 use Rattle.pc_command.specs.Requests.{check_command_of, stat_command_of, stat_request_in, view_command_of, view_request_in}
 use Rattle.pc_command.proofs.Programs.{argument_tables}
 
@@ -213,6 +213,29 @@ unfolding compile_command_of compile_request_in matches_taken word_in flag_in nu
 plain_words-compile source object place is also named =
     rw (compile-fault source object is also, source-walked source is, letter-walked source, object-walked source object also, named) refl
 
+-- ---- the explainer's word
+
+-- the walk over SRC
+explain-walked : (source : Text) → IsPlainWord source
+    → walked (built explain_app).top.rules [] (walk_from nothing_held) source ≡ at_place (source_held source) idle 2
+unfolding argument_tables
+explain-walked source is = plain_word-walked (built explain_app).top.rules nothing_held idle 1 source is
+
+-- finds no fault
+explain-walk_fault : (source : Text) → IsPlainWord source → walk_fault (built explain_app).top [] (walk_from nothing_held) (source ∷ []) ≡ []
+unfolding argument_tables walk_fault
+explain-walk_fault source is = rw (plain_word-turn (built explain_app).top nothing_held idle 1 source is) refl
+
+-- and there is none after it
+explain-fault : (source : Text) → IsPlainWord source → fault_of explain_app (source ∷ []) ≡ []
+unfolding argument_tables defaults_fault
+explain-fault source is = rw (explain-walk_fault source is, explain-walked source is) refl
+
+-- one plain word that names a source is a command of the explainer
+pub plain_word-explains : PlainWordExplains
+unfolding explain_command_of explain_request_in matches_taken word_in number_in argument_tables
+plain_word-explains source place is named = rw (explain-fault source is, explain-walked source is, named) refl
+
 -- ---- the assembler's words
 
 -- what is held after TEXT, and after `-o`
@@ -274,5 +297,5 @@ plain_words-assemble text object is also =
 
 -- are no command
 pub no_words-command : NoWordsAreNoCommand
-unfolding compile_command_of assemble_command_of simulate_command_of view_command_of stat_command_of check_command_of matches_taken argument_tables clap_on_literals
-no_words-command = (refl, refl, refl, refl, refl, refl)
+unfolding compile_command_of assemble_command_of simulate_command_of view_command_of stat_command_of check_command_of explain_command_of matches_taken argument_tables clap_on_literals
+no_words-command = (refl, refl, refl, refl, refl, refl, refl)

@@ -9,8 +9,8 @@ use Rattle.clap.specs.declared.builder.arg.Arg.{Arg}
 use Rattle.clap.specs.declared.builder.command.Command.{Command}
 use Rattle.clap.specs.declared.builder.command.Command.TheViews.{out-Command}
 use Rattle.clap.proofs.OnLiterals.{clap_on_literals}
-use Rattle.pc_command.specs.Arguments.{assemble_app, check_app, compile_app, app_with, simulate_app, stat_app, view_app}
-use Rattle.pc_command.specs.Options.{ops_option, tests_option, mem_option, window_option, rows_option, cycles_option, trace_option}
+use Rattle.pc_command.specs.Arguments.{assemble_app, check_app, compile_app, app_with, explain_app, simulate_app, stat_app, view_app}
+use Rattle.pc_command.specs.Options.{ops_option, tests_option, mem_option, window_option, rows_option, cycles_option, trace_option, loop_option}
 
 -- a command whose words begin after the program's name
 pub nameless : (old new : Command) (name : Text) → out-Command new ≡ record (out-Command old) { no_binary_name = true }
@@ -24,7 +24,7 @@ added old arg new app rule adds local is rule_is = adds.shape local ∙ ap₂ wi
 
 -- what is opened to compute the programs' arguments
 unfoldable pub argument_tables : Unit {0}
-unfolding compile_app assemble_app simulate_app view_app stat_app check_app ops_option tests_option mem_option window_option rows_option cycles_option trace_option digits
+unfolding compile_app assemble_app simulate_app view_app stat_app check_app explain_app ops_option tests_option mem_option window_option rows_option cycles_option trace_option loop_option digits
 argument_tables = tt
 
 -- `clap` says exactly which words the programs take
@@ -51,3 +51,7 @@ stat_app_is_simple = refl
 pub check_app_is_simple : is_simple_and_free check_app ≡ true
 unfolding argument_tables clap_on_literals
 check_app_is_simple = refl
+
+pub explain_app_is_simple : is_simple_and_free explain_app ≡ true
+unfolding argument_tables clap_on_literals
+explain_app_is_simple = refl

@@ -1,9 +1,10 @@
 -- The numbers of the options lie in their ranges.
-use Rattle.std.proofs.Common.{◌≡◌, ◌≤◌, ℕ, lit≤}
+use Rattle.std.proofs.Common.{◌≡◌, ◌≤◌, ◌+◌, ℕ, lit≤}
 use Rattle.std.specs.Prelude.{Some}
 use Rattle.pc_command.specs.Matching.{Matches}
-use Rattle.pc_command.specs.Options.{NumberOption, number_found, number_in, ops_option, tests_option, mem_option, window_option, rows_option, cycles_option, trace_option}
+use Rattle.pc_command.specs.Options.{NumberOption, number_found, number_in, ops_option, tests_option, mem_option, window_option, rows_option, cycles_option, trace_option, loop_option}
 use Rattle.pc_word.specs.Ranges.{AreCycles, IsExtent, AreLimits, IsBetween}
+use Rattle.pc_word.specs.SourceLimits.{most_source}
 use Rattle.pc_command.specs.Requests.{extent_in, limits_in}
 use Rattle.pc_command.proofs.Numbers.{number_found-between, number_in-between}
 
@@ -34,6 +35,10 @@ cycles-between matches = number_in-between cycles_option matches (lit≤ tt) (li
 pub trace-between : (matches : Matches) (cycles : ℕ) → number_found trace_option matches ≡ Some cycles → AreCycles cycles
 unfolding trace_option
 trace-between matches cycles e = number_found-between trace_option matches cycles e
+
+pub loop-between : (matches : Matches) (line : ℕ) → number_found loop_option matches ≡ Some line → IsBetween 1 (most_source + 1) line
+unfolding loop_option
+loop-between matches line e = number_found-between loop_option matches line e
 
 -- the number of a line of the code's table is at most what the number of the option is
 pub number-most : (line option : NumberOption) (matches : Matches) (number most : ℕ) → line ≡ option → number ≡ number_in line matches

@@ -17,9 +17,9 @@ use Rattle.clap.specs.declared.builder.value_parser.ValueParser.TheVariants as v
 use Rattle.clap.proofs.OnLiterals.{clap_on_literals}
 use Rattle.pc_word.proofs.Truth.{or_false}
 use Rattle.pc_command.specs.Matching.{Matches}
-use Rattle.pc_command.specs.Arguments.{assemble_app, check_app, compile_app, flag_found, flag_spelled, matches_taken, simulate_app, stat_app, view_app}
-use Rattle.pc_command.specs.Laws.{AssembleMatchesAreWhole, CheckMatchesAreWhole, CompileMatchesAreWhole, SimulateMatchesAreWhole, StatMatchesAreWhole, ViewMatchesAreWhole}
-use Rattle.pc_command.specs.Options.{NumberOption, cycles_option, mem_option, number_found, number_spelled, ops_option, rows_option, tests_option, trace_option, window_option}
+use Rattle.pc_command.specs.Arguments.{assemble_app, check_app, compile_app, explain_app, flag_found, flag_spelled, matches_taken, simulate_app, stat_app, view_app}
+use Rattle.pc_command.specs.Laws.{AssembleMatchesAreWhole, CheckMatchesAreWhole, CompileMatchesAreWhole, ExplainMatchesAreWhole, SimulateMatchesAreWhole, StatMatchesAreWhole, ViewMatchesAreWhole}
+use Rattle.pc_command.specs.Options.{NumberOption, cycles_option, loop_option, mem_option, number_found, number_spelled, ops_option, rows_option, tests_option, trace_option, window_option}
 use Rattle.pc_command.proofs.Values.{Holds, IsPlainRule, is_plain_action, no_faults}
 use Rattle.pc_command.proofs.Walks.{settled_at_end, walk-holds}
 use Rattle.pc_command.proofs.Defaults.{HasRow, defaults-hold, defaults_are_there, row_given, row_read, row_there}
@@ -161,6 +161,9 @@ stat_rules = (built stat_app).top.rules
 abbrev check_rules : List Rule
 check_rules = (built check_app).top.rules
 
+abbrev explain_rules : List Rule
+explain_rules = (built explain_app).top.rules
+
 -- an argument that may be used
 used_rule : (rules : List Rule) (a : Rule) → arg_by_id rules a.id ≡ Some a → is_plain_action (action_of a) ≡ true
     → (nat_lt 0 (unwrap_or_range a.range).start_inclusive || nat_lt 0 (length a.missing)) ≡ true → values_fault a a.defaults ≡ [] → IsPlainRule rules a
@@ -237,6 +240,20 @@ check_rules_are_plain =
     (also (record { first = refl; plain = refl; valued = λ used. used; defaults = refl })
     tt)))))
 
+-- each of the explainer
+explain_rules_are_plain : AllByRecursion (IsPlainRule explain_rules) explain_rules
+unfolding argument_tables clap_on_literals
+explain_rules_are_plain =
+    also (used_rule _ _ refl refl refl refl)
+    (also (used_rule _ _ refl refl refl refl)
+    (also (used_rule _ _ refl refl refl refl)
+    (also (used_rule _ _ refl refl refl refl)
+    (also (used_rule _ _ refl refl refl refl)
+    (also (used_rule _ _ refl refl refl refl)
+    (also (used_rule _ _ refl refl refl refl)
+    (also (record { first = refl; plain = refl; valued = λ used. used; defaults = refl })
+    tt)))))))
+
 module _ (rules : List Rule) (matches : Matches) (hold : AllByRecursion (Holds rules) matches) where
   -- a word that is given
   word_of : (a : Rule) → IsPlainRule rules a → is_given a.id matches ≡ true → IsSome (first_of a.id matches)
@@ -266,11 +283,13 @@ compile_matches-whole words matches e =
     record {
       source = word_of compile_rules matches are.hold _ plain.0 (not_lacking _ lacking.0);
       object = word_of compile_rules matches are.hold _ plain.1.0 (not_lacking _ (or_false _ _ lacking.1).0);
-      ops = number_of compile_rules matches are.hold ops_option _ plain.1.1.0 refl refl (are.defaults.1.1.0 refl);
-      tests = number_of compile_rules matches are.hold tests_option _ plain.1.1.1.0 refl refl (are.defaults.1.1.1.0 refl);
-      mem = number_of compile_rules matches are.hold mem_option _ plain.1.1.1.1.0 refl refl (are.defaults.1.1.1.1.0 refl);
-      window = number_of compile_rules matches are.hold window_option _ plain.1.1.1.1.1.0 refl refl (are.defaults.1.1.1.1.1.0 refl);
-      rows = number_of compile_rules matches are.hold rows_option _ plain.1.1.1.1.1.1.0 refl refl (are.defaults.1.1.1.1.1.1.0 refl);
+      numbers = record {
+        ops = number_of compile_rules matches are.hold ops_option _ plain.1.1.0 refl refl (are.defaults.1.1.0 refl);
+        tests = number_of compile_rules matches are.hold tests_option _ plain.1.1.1.0 refl refl (are.defaults.1.1.1.0 refl);
+        mem = number_of compile_rules matches are.hold mem_option _ plain.1.1.1.1.0 refl refl (are.defaults.1.1.1.1.0 refl);
+        window = number_of compile_rules matches are.hold window_option _ plain.1.1.1.1.1.0 refl refl (are.defaults.1.1.1.1.1.0 refl);
+        rows = number_of compile_rules matches are.hold rows_option _ plain.1.1.1.1.1.1.0 refl refl (are.defaults.1.1.1.1.1.1.0 refl);
+      };
       report = flag_of compile_rules matches are.hold _ plain.1.1.1.1.1.1.1.0 refl (are.defaults.1.1.1.1.1.1.1.0 refl);
     }
 
@@ -340,4 +359,23 @@ check_matches-whole words matches e =
       certificate = word_of check_rules matches are.hold _ plain.1.1.0 (not_lacking _ (or_false _ _ more.1).0);
       make = flag_of check_rules matches are.hold _ plain.1.1.1.0 refl (are.defaults.1.1.1.0 refl);
       why = flag_of check_rules matches are.hold _ plain.1.1.1.1.0 refl (are.defaults.1.1.1.1.0 refl);
+    }
+
+-- nor of the explainer's
+pub explain_matches-whole : ExplainMatchesAreWhole
+unfolding argument_tables
+explain_matches-whole words matches e =
+    let are = matches_are_filled explain_app words matches explain_rules_are_plain e in
+    let plain = explain_rules_are_plain in
+    let lacking = or_false _ _ (asks_for_none _ _ _ are.checked) in
+    record {
+      source = word_of explain_rules matches are.hold _ plain.0 (not_lacking _ lacking.0);
+      numbers = record {
+        ops = number_of explain_rules matches are.hold ops_option _ plain.1.0 refl refl (are.defaults.1.0 refl);
+        tests = number_of explain_rules matches are.hold tests_option _ plain.1.1.0 refl refl (are.defaults.1.1.0 refl);
+        mem = number_of explain_rules matches are.hold mem_option _ plain.1.1.1.0 refl refl (are.defaults.1.1.1.0 refl);
+        window = number_of explain_rules matches are.hold window_option _ plain.1.1.1.1.0 refl refl (are.defaults.1.1.1.1.0 refl);
+        rows = number_of explain_rules matches are.hold rows_option _ plain.1.1.1.1.1.0 refl refl (are.defaults.1.1.1.1.1.0 refl);
+      };
+      line = number_if_given explain_rules matches are.hold loop_option _ plain.1.1.1.1.1.1.0 refl refl;
     }

@@ -7,7 +7,7 @@ use Rattle.clap.specs.Kinds.{Kinds}
 use Rattle.clap.specs.declared.builder.action.ArgAction.TheVariants.{Set, SetTrue}
 use Rattle.clap.specs.declared.builder.value_parser.ValueParser.TheVariants as vp
 use Rattle.pc_command.specs.Matching.{Matches}
-use Rattle.pc_command.specs.Options.{NumberOption, ops_option, tests_option, mem_option, window_option, rows_option, cycles_option, trace_option}
+use Rattle.pc_command.specs.Options.{NumberOption, ops_option, tests_option, mem_option, window_option, rows_option, cycles_option, trace_option, loop_option}
 
 -- `NAME`: a word at its place, which may not be left out
 abbrev pub word_argument : Text → Rule
@@ -50,6 +50,18 @@ compile_app = app_with (codes "pcc") (
     ∷ (number_argument rows_option
     ∷ (flag_argument (codes "report")
     ∷ []))))))))
+
+-- `pexplain SRC [--ops N] [--tests N] [--mem N] [--window N] [--rows N] [--loop LINE]`
+unfoldable pub explain_app : App
+explain_app = app_with (codes "pexplain") (
+    word_argument (codes "SRC")
+    ∷ (number_argument ops_option
+    ∷ (number_argument tests_option
+    ∷ (number_argument mem_option
+    ∷ (number_argument window_option
+    ∷ (number_argument rows_option
+    ∷ (optional_argument loop_option
+    ∷ [])))))))
 
 -- `pvm OBJ [--cycles N]`
 unfoldable pub simulate_app : App

@@ -1,14 +1,15 @@
 -- What holds of every command, said of the definitions alone.
-use Rattle.std.specs.Prelude.{◌≡◌, ◌≢◌, ℕ, ◌^◌, ◌<◌, List, [], ◌∷◌, Option, Some, None, Bool, true, false, ⊤, codes, map, option_map}
+use Rattle.std.specs.Prelude.{◌≡◌, ◌≢◌, ℕ, ◌^◌, ◌<◌, ◌+◌, List, [], ◌∷◌, Option, Some, None, Bool, true, false, ⊤, codes, map, option_map}
 use Rattle.std.specs.List.{AllByRecursion}
 use Rattle.std.specs.Option.{IsSome}
 use Rattle.clap.specs.Walk.{first_of, one_of}
-use Rattle.pc_word.specs.Ranges.{AreCycles, IsExtent, AreLimits}
+use Rattle.pc_word.specs.Ranges.{AreCycles, IsBetween, IsExtent, AreLimits}
+use Rattle.pc_word.specs.SourceLimits.{most_source}
 use Rattle.pc_command.specs.Matching.{Matches}
-use Rattle.pc_command.specs.Arguments.{assemble_app, check_app, compile_app, flag_found, matches_taken, simulate_app, stat_app, view_app}
-use Rattle.pc_command.specs.Options.{cycles_option, mem_option, number_found, ops_option, rows_option, tests_option, trace_option, window_option}
+use Rattle.pc_command.specs.Arguments.{assemble_app, check_app, compile_app, explain_app, flag_found, matches_taken, simulate_app, stat_app, view_app}
+use Rattle.pc_command.specs.Options.{cycles_option, loop_option, mem_option, number_found, ops_option, rows_option, tests_option, trace_option, window_option}
 use Rattle.pc_command.specs.Requests.{CompileRequest, OfFile, OfSample, SourcePlace, SimulateRequest, compile_command_of, simulate_command_of, source_place_of}
-use Rattle.pc_command.specs.Requests.{CheckRequest, StatRequest, assemble_command_of, check_command_of, stat_command_of, view_command_of}
+use Rattle.pc_command.specs.Requests.{CheckRequest, ExplainRequest, StatRequest, assemble_command_of, check_command_of, explain_command_of, stat_command_of, view_command_of}
 use Rattle.pc_command.specs.declared.stat.StatMode.TheVariants as mode
 
 -- ---- the ranges of a command
@@ -45,17 +46,32 @@ StatCommandsAreInRange = (words : List (List ℕ)) (request : StatRequest) → s
 abbrev pub CheckCommandsAreInRange : Type 0
 CheckCommandsAreInRange = (words : List (List ℕ)) (request : CheckRequest) → check_command_of words ≡ Some request → IsSourcePlace request.source
 
+-- what words ask of the explainer lies in the ranges of its options
+pub record IsExplainInRange (request : ExplainRequest) : Type 0 where
+  pub source : IsSourcePlace request.source
+  pub limits : AreLimits request.limits
+  pub extent : IsExtent request.extent
+  pub line : (line : ℕ) → request.line ≡ Some line → IsBetween 1 (most_source + 1) line
+
+-- and each of the explainer
+abbrev pub ExplainCommandsAreInRange : Type 0
+ExplainCommandsAreInRange = (words : List (List ℕ)) (request : ExplainRequest) → explain_command_of words ≡ Some request → IsExplainInRange request
+
 -- ---- the matches of a command
 
--- all that is read of the compiler's matches is there: both words, a number of each option that the option takes, and the flag's state
-pub record AreCompileMatches (matches : Matches) : Type 0 where
-  pub source : IsSome (first_of (codes "SRC") matches)
-  pub object : IsSome (first_of (codes "OBJ") matches)
+-- the numbers of the limits and of the extent are there, each one that its option takes
+pub record AreScheduleMatches (matches : Matches) : Type 0 where
   pub ops : IsSome (number_found ops_option matches)
   pub tests : IsSome (number_found tests_option matches)
   pub mem : IsSome (number_found mem_option matches)
   pub window : IsSome (number_found window_option matches)
   pub rows : IsSome (number_found rows_option matches)
+
+-- all that is read of the compiler's matches is there: both words, the numbers, and the flag's state
+pub record AreCompileMatches (matches : Matches) : Type 0 where
+  pub source : IsSome (first_of (codes "SRC") matches)
+  pub object : IsSome (first_of (codes "OBJ") matches)
+  pub numbers : AreScheduleMatches matches
   pub report : IsSome (flag_found (codes "report") matches)
 
 -- so is all that is read of the assembler's
@@ -90,6 +106,12 @@ pub record AreCheckMatches (matches : Matches) : Type 0 where
   pub make : IsSome (flag_found (codes "make") matches)
   pub why : IsSome (flag_found (codes "why") matches)
 
+-- and of the explainer's; a line is there where one is given
+pub record AreExplainMatches (matches : Matches) : Type 0 where
+  pub source : IsSome (first_of (codes "SRC") matches)
+  pub numbers : AreScheduleMatches matches
+  pub line : IsSome (one_of (codes "loop") matches) → IsSome (number_found loop_option matches)
+
 -- the matches that `clap` gives of words that it takes lack nothing, so no command has a word or a number that stands for a missing one
 abbrev pub CompileMatchesAreWhole : Type 0
 CompileMatchesAreWhole = (words : List (List ℕ)) (matches : Matches) → matches_taken compile_app words ≡ Some matches → AreCompileMatches matches
@@ -110,9 +132,13 @@ ViewMatchesAreWhole = (words : List (List ℕ)) (matches : Matches) → matches_
 abbrev pub StatMatchesAreWhole : Type 0
 StatMatchesAreWhole = (words : List (List ℕ)) (matches : Matches) → matches_taken stat_app words ≡ Some matches → AreStatMatches matches
 
--- and those of the checker
+-- those of the checker
 abbrev pub CheckMatchesAreWhole : Type 0
 CheckMatchesAreWhole = (words : List (List ℕ)) (matches : Matches) → matches_taken check_app words ≡ Some matches → AreCheckMatches matches
+
+-- and those of the explainer
+abbrev pub ExplainMatchesAreWhole : Type 0
+ExplainMatchesAreWhole = (words : List (List ℕ)) (matches : Matches) → matches_taken explain_app words ≡ Some matches → AreExplainMatches matches
 
 -- ---- plain words
 
@@ -153,11 +179,17 @@ abbrev pub PlainWordProfiles : Type 0
 PlainWordProfiles = (object : List ℕ) → IsPlainWord object
     → stat_command_of (object ∷ []) ≡ Some (record { object = object; cycles = 100000000; mode = mode.Summary })
 
+-- `SRC` asks how all innermost loops of the source that it names are scheduled, with the defaults
+abbrev pub PlainWordExplains : Type 0
+PlainWordExplains = (source : List ℕ) (place : SourcePlace) → IsPlainWord source → source_place_of source ≡ Some place
+    → explain_command_of (source ∷ [])
+    ≡ Some (record { source = place; limits = record { ops = 8; tests = 3; mem = 2 }; extent = record { window = 4; rows = 256 }; line = None })
+
 -- no words are no command
 abbrev pub NoWordsAreNoCommand : Type 0
 NoWordsAreNoCommand =
     (compile_command_of [] ≡ None) × (assemble_command_of [] ≡ None) × (simulate_command_of [] ≡ None) × (view_command_of [] ≡ None) × (stat_command_of [] ≡ None)
-    × (check_command_of [] ≡ None)
+    × (check_command_of [] ≡ None) × (explain_command_of [] ≡ None)
 
 -- ---- the words of the checker
 

@@ -1,9 +1,10 @@
 -- The options that take a number, as a table: the name of each, its range and its default.
-use Rattle.std.specs.Prelude.{ℕ, Option, Some, None, codes, if◌then◌else◌, option_and_then, unwrap_or}
+use Rattle.std.specs.Prelude.{ℕ, ◌+◌, Option, Some, None, codes, if◌then◌else◌, option_and_then, unwrap_or}
 use Rattle.std.specs.Str.Parse.{digits_value, without_leading_plus}
 use Rattle.clap.specs.Walk.{Text, one_of}
 use Rattle.clap.specs.ValueTests.{is_unsigned_in}
 use Rattle.pc_word.specs.MachineLimits.{most_cycles, most_mem, most_ops, most_rows, most_tests, most_window}
+use Rattle.pc_word.specs.SourceLimits.{most_source}
 use Rattle.pc_command.specs.Matching.{Matches}
 
 -- an option `--NAME N`: the least and the greatest number that it takes, and the number that it has where the words leave it out
@@ -44,6 +45,10 @@ cycles_option = number_option (codes "cycles") 1 most_cycles 100000000
 -- how many cycles are traced; where the words leave it out, none is
 unfoldable pub trace_option : NumberOption
 trace_option = number_option (codes "trace") 1 most_cycles 0
+
+-- the line of the loops that are explained; where the words leave it out, those of all lines are. A source has at most one line more than it has bytes
+unfoldable pub loop_option : NumberOption
+loop_option = number_option (codes "loop") 1 (most_source + 1) 0
 
 -- the number that a text spells, where the option takes it: digits that a `+` may precede, and a number in the range
 abbrev pub number_spelled : NumberOption → Text → Option ℕ

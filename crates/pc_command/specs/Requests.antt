@@ -1,18 +1,19 @@
--- What the words of a command line ask of the compiler, of the assembler, of the simulator, of the viewer, of the profiler and of the checker.
+-- What the words of a command line ask of the compiler, of the assembler, of the simulator, of the viewer, of the profiler, of the checker and of the explainer.
 use Rattle.std.specs.Prelude.{ℕ, ◌^◌, ◌==◌, ◌&&◌, Bool, true, false, List, [], ◌∷◌, Option, Some, None, codes, if◌then◌else◌, nat_lt, option_and_then, option_map}
 use Rattle.std.specs.Str.Parse.{digits_value}
 use Rattle.pc_word.specs.NumberText.{is_numeral}
 use Rattle.pc_word.specs.declared.item.Limits.{Limits}
 use Rattle.pc_word.specs.declared.item.Extent.{Extent}
 use Rattle.pc_command.specs.Matching.{Matches}
-use Rattle.pc_command.specs.Arguments.{assemble_app, check_app, compile_app, flag_in, matches_taken, simulate_app, stat_app, view_app, word_in}
-use Rattle.pc_command.specs.Options.{number_found, number_in, ops_option, tests_option, mem_option, window_option, rows_option, cycles_option, trace_option}
+use Rattle.pc_command.specs.Arguments.{assemble_app, check_app, compile_app, explain_app, flag_in, matches_taken, simulate_app, stat_app, view_app, word_in}
+use Rattle.pc_command.specs.Options.{number_found, number_in, ops_option, tests_option, mem_option, window_option, rows_option, cycles_option, trace_option, loop_option}
 use Rattle.pc_command.specs.declared.error.CommandError.{CommandError}
 use Rattle.pc_command.specs.declared.error.CommandError.TheVariants as error
 use Rattle.pc_command.specs.declared.source.SourceName.{SourceName}
 use Rattle.pc_command.specs.declared.source.SourceName.TheVariants as name
 use Rattle.pc_command.specs.declared.compile.CompileCommand.{CompileCommand}
 use Rattle.pc_command.specs.declared.check.CheckCommand.{CheckCommand}
+use Rattle.pc_command.specs.declared.explain.ExplainCommand.{ExplainCommand}
 use Rattle.pc_command.specs.declared.assemble.AssembleCommand.{AssembleCommand}
 use Rattle.pc_command.specs.declared.simulate.SimulateCommand.{SimulateCommand}
 use Rattle.pc_command.specs.declared.view.ViewCommand.{ViewCommand}
@@ -62,6 +63,13 @@ pub record CheckRequest : Type 0 where
   pub certificate : List ℕ
   pub make : Bool
   pub why : Bool
+
+-- what the explainer is asked to do: to say how the innermost loops of a source are scheduled, those of one line or all
+pub record ExplainRequest : Type 0 where
+  pub source : SourcePlace
+  pub limits : Limits
+  pub extent : Extent
+  pub line : Option ℕ
 
 -- the number that bytes spell in decimal digits alone, where it is one from 0 to 4294967295
 abbrev pub sample_number_of : List ℕ → Option ℕ
@@ -143,6 +151,15 @@ check_request_in matches = option_map (λ source. record {
   why = flag_in (codes "why") matches;
 }) (source_place_of (word_in (codes "SRC") matches))
 
+-- what the explainer's matches ask, where SRC names a source
+unfoldable pub explain_request_in : Matches → Option ExplainRequest
+explain_request_in matches = option_map (λ source. record {
+  source = source;
+  limits = limits_in matches;
+  extent = extent_in matches;
+  line = number_found loop_option matches;
+}) (source_place_of (word_in (codes "SRC") matches))
+
 -- what words ask of the compiler, if they are a command: `clap` takes them, and SRC names a source
 unfoldable pub compile_command_of : List (List ℕ) → Option CompileRequest
 compile_command_of words = option_and_then compile_request_in (matches_taken compile_app words)
@@ -166,6 +183,10 @@ stat_command_of words = option_and_then stat_request_in (matches_taken stat_app 
 -- what words ask of the checker, if they are a command: `clap` takes them, and SRC names a source
 unfoldable pub check_command_of : List (List ℕ) → Option CheckRequest
 check_command_of words = option_and_then check_request_in (matches_taken check_app words)
+
+-- what words ask of the explainer, if they are a command: `clap` takes them, and SRC names a source
+unfoldable pub explain_command_of : List (List ℕ) → Option ExplainRequest
+explain_command_of words = option_and_then explain_request_in (matches_taken explain_app words)
 
 -- a name of a source, as plain data
 abbrev pub source_place : SourceName → SourcePlace
@@ -198,7 +219,7 @@ view_request command = record { object = command.object.now; dot = command.dot }
 abbrev pub stat_request : StatCommand → StatRequest
 stat_request command = record { object = command.object.now; cycles = command.cycles; mode = command.mode }
 
--- and for the checker
+-- for the checker
 abbrev pub check_request : CheckCommand → CheckRequest
 check_request command = record {
   source = source_place command.source;
@@ -207,6 +228,10 @@ check_request command = record {
   make = command.make;
   why = command.why;
 }
+
+-- and for the explainer
+abbrev pub explain_request : ExplainCommand → ExplainRequest
+explain_request command = record { source = source_place command.source; limits = command.limits; extent = command.extent; line = command.line }
 
 -- why words are refused: they are no command; want of memory has no cause
 abbrev pub command_cause : CommandError → Option CommandError

@@ -8,7 +8,7 @@ ghost use Rattle.clap.specs.Values.{kind_of};
 ghost use Rattle.clap.specs.declared.error.kind.ErrorKind.TheVariants.{OutOfMemory};
 ghost use Rattle.pc_word.specs.Exact.{IsExact};
 ghost use Rattle.pc_command.specs.Matching.{matches_in};
-ghost use Rattle.pc_command.specs.Arguments.{assemble_app, check_app, compile_app, flag_argument, flag_found, flag_in, letter_argument, matches_taken, simulate_app, stat_app, view_app, word_argument, word_in};
+ghost use Rattle.pc_command.specs.Arguments.{assemble_app, check_app, compile_app, explain_app, flag_argument, flag_found, flag_in, letter_argument, matches_taken, simulate_app, stat_app, view_app, word_argument, word_in};
 ghost use Rattle.pc_command.specs.Requests.{command_cause};
 ghost use Rattle.pc_command.specs.Words.{spelled};
 
@@ -56,6 +56,23 @@ pub(crate) fn compile_app<'a>(alloc: Global) -> Result<Command<'a>, clap::Error>
         .arg(OptionLine::window().argument(alloc))?
         .arg(OptionLine::rows().argument(alloc))?
         .arg(flag_argument(alloc, "report"))?;
+    Ok(command)
+}
+
+/// `pexplain SRC [--ops N] [--tests N] [--mem N] [--window N] [--rows N] [--loop LINE]`.
+pub(crate) fn explain_app<'a>(alloc: Global) -> Result<Command<'a>, clap::Error>
+    ensures app { IfOk result (λ command. app_of command ≡ explain_app) }
+    ensures memory { IfErr result (λ error. kind_of error ≡ OutOfMemory) }
+{
+    let command = Command::new(alloc, "pexplain")
+        .no_binary_name(true)
+        .arg(word_argument(alloc, "SRC"))?
+        .arg(OptionLine::ops().argument(alloc))?
+        .arg(OptionLine::tests().argument(alloc))?
+        .arg(OptionLine::mem().argument(alloc))?
+        .arg(OptionLine::window().argument(alloc))?
+        .arg(OptionLine::rows().argument(alloc))?
+        .arg(OptionLine::source_line().optional_argument(alloc))?;
     Ok(command)
 }
 

@@ -4,11 +4,11 @@ ghost use Rattle.pc_word.specs.Exact.{IsExact};
 ghost use Rattle.pc_word.specs.Ranges.{IsExtent, AreLimits};
 ghost use Rattle.pc_command.specs.Matching.{matches_in};
 ghost use Rattle.pc_command.specs.Laws.{AreCompileMatches};
-ghost use Rattle.pc_command.specs.Requests.{command_cause, compile_command_of, compile_request, compile_request_in, extent_in, limits_in};
+ghost use Rattle.pc_command.specs.Requests.{command_cause, compile_command_of, compile_request, compile_request_in};
 ghost use Rattle.pc_command.specs.Words.{spelled};
 
 use crate::arguments::{compile_app, flag_in, matches_of, word_in};
-use crate::number_option::OptionLine;
+use crate::schedule::{extent_in, limits_in};
 use crate::source::source_named;
 use crate::{CommandError, SourceName};
 use clap::ArgMatches;
@@ -62,29 +62,4 @@ fn command_in<'a>(matches: &ArgMatches<'a>) -> Option<CompileCommand<'a>>
         extent: extent_in(matches),
         report: flag_in(matches, "report"),
     })
-}
-
-/// The limits of a row that the matches ask for.
-fn limits_in(matches: &ArgMatches<'_>) -> Limits
-    requires { AreCompileMatches (matches_in matches.now) }
-    ensures value { result ≡ limits_in (matches_in matches.now) }
-    ensures range { AreLimits result }
-{
-    Limits {
-        ops: OptionLine::ops().number_in(matches) as u8,
-        tests: OptionLine::tests().number_in(matches) as u8,
-        mem: OptionLine::mem().number_in(matches) as u8,
-    }
-}
-
-/// The extent of a window and of its schedule that the matches ask for.
-fn extent_in(matches: &ArgMatches<'_>) -> Extent
-    requires { AreCompileMatches (matches_in matches.now) }
-    ensures value { result ≡ extent_in (matches_in matches.now) }
-    ensures range { IsExtent result }
-{
-    Extent {
-        window: OptionLine::window().number_in(matches) as u8,
-        rows: OptionLine::rows().number_in(matches) as u16,
-    }
 }

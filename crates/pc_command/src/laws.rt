@@ -1,8 +1,8 @@
 //! Laws of the definitions that contracts speak of. No function here does anything: each one's
 //! contract is a law, and that it is proved is all that it is for.
-ghost use Rattle.pc_command.specs.Laws.{CheckCommandsAreInRange, CompileCommandsAreInRange, SimulateCommandsAreInRange, StatCommandsAreInRange};
-ghost use Rattle.pc_command.specs.Laws.{AssembleMatchesAreWhole, CheckMatchesAreWhole, CompileMatchesAreWhole, SimulateMatchesAreWhole, StatMatchesAreWhole, ViewMatchesAreWhole};
-ghost use Rattle.pc_command.specs.Laws.{CheckWordsAsk, NoWordsAreNoCommand, PlainWordProfiles, PlainWordSimulates, PlainWordViews, PlainWordsAssemble, PlainWordsCompile};
+ghost use Rattle.pc_command.specs.Laws.{CheckCommandsAreInRange, CompileCommandsAreInRange, ExplainCommandsAreInRange, SimulateCommandsAreInRange, StatCommandsAreInRange};
+ghost use Rattle.pc_command.specs.Laws.{AssembleMatchesAreWhole, CheckMatchesAreWhole, CompileMatchesAreWhole, ExplainMatchesAreWhole, SimulateMatchesAreWhole, StatMatchesAreWhole, ViewMatchesAreWhole};
+ghost use Rattle.pc_command.specs.Laws.{CheckWordsAsk, NoWordsAreNoCommand, PlainWordExplains, PlainWordProfiles, PlainWordSimulates, PlainWordViews, PlainWordsAssemble, PlainWordsCompile};
 
 /// Whatever words are a command, its numbers lie in the ranges of their options, and the name of its
 /// source does not begin with `@`.
@@ -11,6 +11,7 @@ pub fn laws_of_ranges()
     ensures simulator { SimulateCommandsAreInRange }
     ensures profiler { StatCommandsAreInRange }
     ensures checker { CheckCommandsAreInRange }
+    ensures explainer { ExplainCommandsAreInRange }
 {}
 
 /// Whatever words `clap` takes, its matches have each word and each number that a command is made of.
@@ -21,12 +22,13 @@ pub fn laws_of_matches()
     ensures viewer { ViewMatchesAreWhole }
     ensures profiler { StatMatchesAreWhole }
     ensures checker { CheckMatchesAreWhole }
+    ensures explainer { ExplainMatchesAreWhole }
 {}
 
-/// `SRC -o OBJ` is a command of the compiler, `TEXT -o OBJ` one of the assembler, and `OBJ` one of each other program but
-/// the checker, with the defaults, where no word begins with a hyphen and SRC names a source. Words of the checker that
-/// begin with no hyphen and its flags are a command of it exactly where they are SRC, OBJ and CERT in this order and no flag
-/// stands twice. No words are no command.
+/// `SRC -o OBJ` is a command of the compiler, `TEXT -o OBJ` one of the assembler, `SRC` one of the explainer, and `OBJ` one
+/// of each other program but the checker, with the defaults, where no word begins with a hyphen and SRC names a source. Words
+/// of the checker that begin with no hyphen and its flags are a command of it exactly where they are SRC, OBJ and CERT in
+/// this order and no flag stands twice. No words are no command.
 pub fn laws_of_plain_words()
     ensures compiler { PlainWordsCompile }
     ensures assembler { PlainWordsAssemble }
@@ -34,5 +36,6 @@ pub fn laws_of_plain_words()
     ensures viewer { PlainWordViews }
     ensures profiler { PlainWordProfiles }
     ensures checker { CheckWordsAsk }
+    ensures explainer { PlainWordExplains }
     ensures no_words { NoWordsAreNoCommand }
 {}

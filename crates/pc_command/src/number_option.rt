@@ -5,11 +5,11 @@ ghost use Rattle.clap.specs.Walk.{one_of, rule_of};
 ghost use Rattle.pc_command.specs.Matching.{matches_in};
 ghost use Rattle.pc_command.specs.Arguments.{number_argument, optional_argument};
 ghost use Rattle.pc_command.specs.Options.{number_found, number_in, number_option};
-ghost use Rattle.pc_command.specs.Options.{ops_option, tests_option, mem_option, window_option, rows_option, cycles_option, trace_option};
+ghost use Rattle.pc_command.specs.Options.{ops_option, tests_option, mem_option, window_option, rows_option, cycles_option, trace_option, loop_option};
 
 use clap::builder::ValueParser;
 use clap::{Arg, ArgAction, ArgMatches};
-use pc_word::{MOST_CYCLES, MOST_MEM, MOST_OPS, MOST_ROWS, MOST_TESTS, MOST_WINDOW};
+use pc_word::{MOST_CYCLES, MOST_MEM, MOST_OPS, MOST_ROWS, MOST_SOURCE, MOST_TESTS, MOST_WINDOW};
 use std::alloc::Global;
 
 /// An option `--NAME N`: the numbers that it takes, and the number that it has where the words leave
@@ -129,5 +129,13 @@ impl<'a> OptionLine<'a> {
         ensures { option_of result ≡ trace_option }
     {
         OptionLine::new("trace", 1, MOST_CYCLES, 0, "0")
+    }
+
+    /// The line of the source whose loops are explained. A source has at most one line more than it
+    /// has bytes.
+    pub(crate) fn source_line() -> Self
+        ensures { option_of result ≡ loop_option }
+    {
+        OptionLine::new("loop", 1, MOST_SOURCE as u64 + 1, 0, "0")
     }
 }

@@ -1,5 +1,5 @@
 -- The laws are lemmas.
-use Rattle.pc_command.proofs.Whole.{assemble_matches-whole, check_matches-whole, compile_matches-whole, simulate_matches-whole, stat_matches-whole, view_matches-whole}
+use Rattle.pc_command.proofs.Whole.{assemble_matches-whole, check_matches-whole, compile_matches-whole, explain_matches-whole, simulate_matches-whole, stat_matches-whole, view_matches-whole}
 use Rattle.pc_command.proofs.laws.laws_of_matches.Goals as goal
 
 pub returns-clause-compiler : goal.returns-clause-compiler
@@ -19,3 +19,6 @@ returns-clause-profiler c = stat_matches-whole
 
 pub returns-clause-checker : goal.returns-clause-checker
 returns-clause-checker c = check_matches-whole
+
+pub returns-clause-explainer : goal.returns-clause-explainer
+returns-clause-explainer c = explain_matches-whole

@@ -2,7 +2,7 @@
 use Rattle.std.proofs.Common.{◌≤◌, arith}
 use Rattle.pc_command.specs.Matching.{matches_in}
 use Rattle.pc_command.proofs.Ranges.{limits_in-range, mem-between, number-most, ops-between, tests-between}
-use Rattle.pc_command.proofs.compile.limits_in.Goals as goal
+use Rattle.pc_command.proofs.schedule.limits_in.Goals as goal
 
 pub overflow_cast-result : goal.overflow_cast-result
 overflow_cast-result c =

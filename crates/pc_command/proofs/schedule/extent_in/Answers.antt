@@ -2,7 +2,7 @@
 use Rattle.std.proofs.Common.{◌≤◌, arith}
 use Rattle.pc_command.specs.Matching.{matches_in}
 use Rattle.pc_command.proofs.Ranges.{extent_in-range, number-most, rows-between, window-between}
-use Rattle.pc_command.proofs.compile.extent_in.Goals as goal
+use Rattle.pc_command.proofs.schedule.extent_in.Goals as goal
 
 pub overflow_cast-result : goal.overflow_cast-result
 overflow_cast-result c =
