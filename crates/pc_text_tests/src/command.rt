@@ -2,9 +2,9 @@
 
 use crate::words::words_of;
 use pc_command::{
-    CheckCommand, CommandError, CompileCommand, SourceName, StatMode, check_command,
-    compile_command, laws_of_matches, laws_of_plain_words, laws_of_ranges, simulate_command,
-    stat_command, view_command,
+    CheckCommand, CommandError, CompileCommand, ExplainCommand, SourceName, StatMode,
+    check_command, compile_command, explain_command, laws_of_matches, laws_of_plain_words,
+    laws_of_ranges, simulate_command, stat_command, view_command,
 };
 use pc_word::{Extent, Limits};
 use std::alloc::{AllocError, Global};
@@ -182,6 +182,26 @@ fn compiles_as(
     Ok(compile_command(alloc, words.as_slice()) == wanted)
 }
 
+/// What words of the explainer ask: the source, how many items a row may have, and the line of the loops, if one is named.
+type Asked = (SourceName<'static>, u8, Option<u32>);
+
+/// What the words of the explainer give, or that they are refused.
+static LOOPS: [(&str, Option<Asked>); 10] = [
+    ("x.c", Some((SourceName::File("x.c"), 8, None))),
+    ("x.c --loop 7", Some((SourceName::File("x.c"), 8, Some(7)))),
+    (
+        "--ops 16 --loop=1048577 @7",
+        Some((SourceName::Sample(7), 16, Some(1_048_577))),
+    ),
+    ("", None),
+    ("x.c -o y", None),
+    ("x.c y", None),
+    ("@x", None),
+    ("x.c --loop 0", None),
+    ("x.c --loop 1048578", None),
+    ("x.c --ops 33", None),
+];
+
 /// The command of `x.c -o y` and these numbers.
 fn with_numbers(numbers: &[u16; 5]) -> Option<CompileCommand<'static>> {
     let [ops, tests, mem, window, rows] = *numbers;
@@ -242,6 +262,31 @@ fn compiler_refuses(rt: HostRuntime) -> Result<(), Fail> {
     for line in NO_COMPILE.iter() {
         assert!(rt;
             compiles_as(rt.alloc(), line, Err(CommandError::NoCommand))?,
+            "{line}"
+        );
+    }
+    Ok(())
+}
+
+#[test]
+fn explainer_takes_and_refuses(rt: HostRuntime) -> Result<(), Fail> {
+    let plain = with_numbers(&[8, 3, 2, 4, 256]).ok_or("numbers")?;
+    for (line, asked) in LOOPS.iter() {
+        let words = words_of(rt.alloc(), line)?;
+        let wanted = match *asked {
+            Some((source, ops, line)) => Ok(ExplainCommand {
+                source,
+                limits: Limits {
+                    ops,
+                    ..plain.limits
+                },
+                extent: plain.extent,
+                line,
+            }),
+            None => Err(CommandError::NoCommand),
+        };
+        assert!(rt;
+            explain_command(rt.alloc(), words.as_slice()) == wanted,
             "{line}"
         );
     }

@@ -6,6 +6,8 @@ mod command;
 #[cfg(test)]
 mod driver;
 #[cfg(test)]
+mod fault_lines;
+#[cfg(test)]
 mod faults;
 #[cfg(test)]
 mod outside;
