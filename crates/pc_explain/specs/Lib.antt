@@ -1,0 +1,4 @@
+pub mod models
+pub mod Explained
+pub mod Words
+pub mod Text

@@ -1,0 +1,73 @@
+//! The row of a state, drawn as the tree that it is.
+ghost use Rattle.std.specs.Prelude.{◌≡◌, ◌++◌, OnOk, string_bytes};
+ghost use Rattle.pc_word.specs.StoredRow.{row_in};
+ghost use Rattle.pc_told.specs.Tellings.{telling_in};
+ghost use Rattle.pc_view.specs.Listing.{lines_text};
+ghost use Rattle.pc_explain.specs.Text.{tree_lines};
+
+use crate::leaves::push_leaf;
+use crate::words::{ItemWords, push_place, shown};
+use pc_automaton::AutomatonLeaf;
+use pc_told::ToldRow;
+use pc_word::RowTree;
+use std::alloc::{AllocError, Global};
+
+/// Appends the lines of a row to a text, with what is told of it, which has the same shape. `first` stands in front of its first
+/// line, `below` in front of the others. `lines` has the line of the source of each node of the flow graph.
+pub(crate) fn push_tree(
+    alloc: Global,
+    text: &mut String,
+    lines: &[u32],
+    first: &str,
+    below: &str,
+    row: &RowTree<AutomatonLeaf>,
+    told: &ToldRow,
+) -> Result<(), AllocError>
+    ensures { OnOk result (string_bytes text.new ≡ string_bytes text.old
+        ++ lines_text (tree_lines lines.now first.now below.now (row_in (λ leaf. leaf) row.now) (telling_in told.now))) }
+{
+    match (row, told) {
+        (
+            RowTree::Step { item, next },
+            ToldRow::Step {
+                iteration,
+                origin,
+                next: told_next,
+                ..
+            },
+        ) => {
+            let item = ItemWords { item: *item };
+            text.push_str(first)?;
+            push_place(text, lines, *iteration, *origin)?;
+            writeln!(text, "{item}")?;
+            push_tree(alloc, text, lines, below, below, next, told_next)
+        }
+        (
+            RowTree::Test { on, yes, no },
+            ToldRow::Test {
+                iteration,
+                origin,
+                yes: told_yes,
+                no: told_no,
+                ..
+            },
+        ) => {
+            let on = shown(*on);
+            text.push_str(first)?;
+            push_place(text, lines, *iteration, *origin)?;
+            writeln!(text, "if {on}")?;
+            let beside = format!(in alloc; "{below}yes ")?;
+            let under = format!(in alloc; "{below}|   ")?;
+            push_tree(alloc, text, lines, beside.as_str(), under.as_str(), yes, told_yes)?;
+            let beside = format!(in alloc; "{below}no  ")?;
+            let under = format!(in alloc; "{below}    ")?;
+            push_tree(alloc, text, lines, beside.as_str(), under.as_str(), no, told_no)
+        }
+        (RowTree::Leaf { leaf }, ToldRow::Leaf { advance }) => {
+            text.push_str(first)?;
+            push_leaf(text, leaf, *advance)?;
+            text.push_str("\n")
+        }
+        _ => Ok(()),
+    }
+}
