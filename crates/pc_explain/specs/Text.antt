@@ -1,5 +1,5 @@
 -- The explanations of loops as a text to be read.
-use Rattle.std.specs.Prelude.{ℕ, suc, List, [], ◌∷◌, ◌++◌, codes, length, map, Option, Some, None}
+use Rattle.std.specs.Prelude.{ℕ, suc, List, [], ◌∷◌, ◌++◌, codes, length, map, Option, Some, None, slice_get}
 use Rattle.std.specs.List.{count_by, flat_map}
 use Rattle.std.specs.Fmt.{decimal}
 use Rattle.pc_word.specs.declared.item.Limits.{Limits}
@@ -19,9 +19,9 @@ use Rattle.pc_explain.specs.Words.{item_words, test_words, place_words, paramete
 -- others. Under a test its yes side comes first: `yes` and `no` begin the sides, and a bar goes down from `yes`.
 abbrev pub tree_lines : (lines first below : List ℕ) → Row AutomatonLeaf → Telling → List (List ℕ)
 tree_lines lines first below (Then item rest) (Tells_item iteration origin what next) =
-    (first ++ (place_words lines iteration origin ++ item_words item)) ∷ tree_lines lines below below rest next
+    (first ++ (place_words iteration (slice_get lines origin) ++ item_words item)) ∷ tree_lines lines below below rest next
 tree_lines lines first below (Either on on_yes on_no) (Tells_test iteration origin what one other) =
-    (first ++ (place_words lines iteration origin ++ test_words on))
+    (first ++ (place_words iteration (slice_get lines origin) ++ test_words on))
     ∷ (tree_lines lines (below ++ codes "yes ") (below ++ codes "|   ") on_yes one
     ++ tree_lines lines (below ++ codes "no  ") (below ++ codes "    ") on_no other)
 tree_lines lines first below (At_leaf leaf) (Tells_leaf advance) = (first ++ leaf_words leaf advance) ∷ []

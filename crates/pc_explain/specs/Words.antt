@@ -1,5 +1,5 @@
 -- The parts of a state's row in words. Names are the state's own, and have an `n` in front.
-use Rattle.std.specs.Prelude.{ℕ, zero, suc, List, [], ◌∷◌, ◌++◌, codes, Option, Some, None, slice_get}
+use Rattle.std.specs.Prelude.{ℕ, zero, suc, List, [], ◌∷◌, ◌++◌, codes, Option, Some, None}
 use Rattle.std.specs.Fmt.{decimal, signed_decimal}
 use Rattle.pc_word.specs.declared.item.Operand.{Operand}
 use Rattle.pc_word.specs.declared.item.Operand.TheVariants.{Name, Lit}
@@ -35,14 +35,10 @@ item_words (More dest) = codes "n" ++ (decimal dest ++ codes " = more()")
 abbrev pub test_words : Operand → List ℕ
 test_words on = codes "if " ++ operand_words on
 
--- the line that something comes from, if it is known
-abbrev pub line_words : Option ℕ → List ℕ
-line_words None = []
-line_words (Some line) = codes " line " ++ decimal line
-
--- what stands in front of an item or test: its iteration, and the line of the node of the flow graph that it comes from
-unfoldable pub place_words : (lines : List ℕ) → (iteration origin : ℕ) → List ℕ
-place_words lines iteration origin = codes "+" ++ (decimal iteration ++ (line_words (slice_get lines origin) ++ codes ": "))
+-- what stands in front of an item or test: its iteration, and the line of the source that it comes from, if it is known
+abbrev pub place_words : (iteration : ℕ) → (line : Option ℕ) → List ℕ
+place_words iteration None = codes "+" ++ (decimal iteration ++ codes ": ")
+place_words iteration (Some line) = codes "+" ++ (decimal iteration ++ (codes " line " ++ (decimal line ++ codes ": ")))
 
 -- ---- lists
 

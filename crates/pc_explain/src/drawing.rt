@@ -6,7 +6,7 @@ ghost use Rattle.pc_view.specs.Listing.{lines_text};
 ghost use Rattle.pc_explain.specs.Text.{tree_lines};
 
 use crate::leaves::push_leaf;
-use crate::words::{ItemWords, push_place, shown};
+use crate::words::{ItemWords, place, shown};
 use pc_automaton::AutomatonLeaf;
 use pc_told::ToldRow;
 use pc_word::RowTree;
@@ -36,10 +36,9 @@ pub(crate) fn push_tree(
                 ..
             },
         ) => {
+            let place = place(lines, *iteration, *origin);
             let item = ItemWords { item: *item };
-            text.push_str(first)?;
-            push_place(text, lines, *iteration, *origin)?;
-            writeln!(text, "{item}")?;
+            writeln!(text, "{first}{place}{item}")?;
             push_tree(alloc, text, lines, below, below, next, told_next)
         }
         (
@@ -52,16 +51,31 @@ pub(crate) fn push_tree(
                 ..
             },
         ) => {
+            let place = place(lines, *iteration, *origin);
             let on = shown(*on);
-            text.push_str(first)?;
-            push_place(text, lines, *iteration, *origin)?;
-            writeln!(text, "if {on}")?;
+            writeln!(text, "{first}{place}if {on}")?;
             let beside = format!(in alloc; "{below}yes ")?;
             let under = format!(in alloc; "{below}|   ")?;
-            push_tree(alloc, text, lines, beside.as_str(), under.as_str(), yes, told_yes)?;
+            push_tree(
+                alloc,
+                text,
+                lines,
+                beside.as_str(),
+                under.as_str(),
+                yes,
+                told_yes,
+            )?;
             let beside = format!(in alloc; "{below}no  ")?;
             let under = format!(in alloc; "{below}    ")?;
-            push_tree(alloc, text, lines, beside.as_str(), under.as_str(), no, told_no)
+            push_tree(
+                alloc,
+                text,
+                lines,
+                beside.as_str(),
+                under.as_str(),
+                no,
+                told_no,
+            )
         }
         (RowTree::Leaf { leaf }, ToldRow::Leaf { advance }) => {
             text.push_str(first)?;

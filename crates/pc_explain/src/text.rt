@@ -161,15 +161,7 @@ fn push_state(
         ++ lines_text (state_lines limits lines.now number (state_in state.now) (telling_in told.now))) }
 {
     push_heading(text, limits, number, state)?;
-    push_tree(
-        alloc,
-        text,
-        lines,
-        "        ",
-        "        ",
-        &state.row,
-        told,
-    )
+    push_tree(alloc, text, lines, "        ", "        ", &state.row, told)
 }
 
 /// Appends the first line of a state to a text.

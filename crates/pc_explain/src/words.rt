@@ -1,11 +1,10 @@
 //! Items and tests in words.
-ghost use Rattle.std.specs.Prelude.{◌≡◌, ◌++◌, Some, OnOk, slice_get, string_bytes};
-ghost use Rattle.pc_explain.specs.Words.{operand_words, item_words, home_words, line_words, place_words};
+ghost use Rattle.std.specs.Prelude.{◌≡◌, Some, slice_get};
+ghost use Rattle.pc_explain.specs.Words.{operand_words, item_words, home_words, place_words};
 
 use pc_view::operator_words;
 use pc_window::Home;
 use pc_word::{Item, Operand};
-use std::alloc::AllocError;
 use std::fmt;
 
 /// An operand that is to be written.
@@ -24,6 +23,13 @@ pub(crate) struct ItemWords {
 #[derive(Clone, Copy)]
 pub(crate) struct HomeWords {
     pub home: Home,
+}
+
+/// The iteration of an item or test and the line of the source that it comes from, if it is known, which are to be written.
+#[derive(Clone, Copy)]
+pub(crate) struct PlaceWords {
+    pub iteration: u32,
+    pub line: Option<u32>,
 }
 
 impl fmt::Display for OperandWords {
@@ -96,28 +102,22 @@ impl fmt::Display for HomeWords {
     }
 }
 
-/// Appends the iteration of an item or test to a text, and the line of the source that its node of the flow graph comes from, if it is
-/// known.
-#[tactic(auto, unfolding(crate::specs::Words::place_words))]
-pub(crate) fn push_place(
-    text: &mut String,
-    lines: &[u32],
-    iteration: u32,
-    origin: u32,
-) -> Result<(), AllocError>
-    ensures { OnOk result (string_bytes text.new ≡ string_bytes text.old ++ place_words lines.now iteration origin) }
-{
-    write!(text, "+{iteration}")?;
-    push_line(text, lines.get(origin as usize).copied())?;
-    text.push_str(": ")
+impl fmt::Display for PlaceWords {
+    ghost output = { λ words. Some (place_words words.iteration words.line) };
+
+    fn fmt<W: fmt::Write>(&self, f: &mut fmt::Formatter<W>) -> fmt::Result {
+        let iteration = self.iteration;
+        match self.line {
+            None => write!(f, "+{iteration}: "),
+            Some(line) => write!(f, "+{iteration} line {line}: "),
+        }
+    }
 }
 
-/// Appends the line that something comes from to a text, if it is known.
-fn push_line(text: &mut String, line: Option<u32>) -> Result<(), AllocError>
-    ensures { OnOk result (string_bytes text.new ≡ string_bytes text.old ++ line_words line) }
+/// What stands in front of an item or test of an iteration that comes from a node of the flow graph, by the line of each node.
+pub(crate) fn place(lines: &[u32], iteration: u32, origin: u32) -> PlaceWords
+    ensures { result ≡ record { iteration = iteration; line = slice_get lines.now origin } }
 {
-    match line {
-        None => Ok(()),
-        Some(line) => write!(text, " line {line}"),
-    }
+    let line = lines.get(origin as usize).copied();
+    PlaceWords { iteration, line }
 }
