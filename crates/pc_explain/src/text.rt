@@ -71,7 +71,7 @@ fn push_loops(
     lines: &[u32],
     loops: &[LoopExplanation],
 ) -> Result<(), AllocError>
-    requires { AllByRecursion (CanBeWritten limits) (explanations_in loops.now) }
+    requires { AllByRecursion (λ it. CanBeWritten limits (explanation_in it)) loops.now }
     ensures { OnOk result (string_bytes text.new ≡ string_bytes text.old ++ lines_text (flat_map (explanation_lines limits lines.now) (explanations_in loops.now))) }
 {
     for explanation in loops {
@@ -138,8 +138,8 @@ fn push_states(
     ensures { OnOk result (string_bytes text.new ≡ string_bytes text.old
         ++ lines_text (states_lines limits lines.now 0 (states_in told.now.automaton) (tellings_in told.now.rows))) }
 {
-    for (number, row) in told.rows.as_slice().iter().enumerate() {
-        let number = number as u32;
+    for (at, row) in told.rows.as_slice().iter().enumerate() {
+        let number = at as u32;
         let state = told.automaton.state(number);
         push_state(alloc, text, limits, lines, number, state, row)?;
     }

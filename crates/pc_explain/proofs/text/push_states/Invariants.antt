@@ -6,8 +6,8 @@ use Rattle.pc_explain.specs.Text.{states_lines}
 use Rattle.pc_explain.proofs.text.push_states.Given as goal
 
 -- the text with the lines of the states from here on is the text at the start with those of all states
-abbrev pub invariant-loop-number : goal.invariant-loop-number
-invariant-loop-number l =
+abbrev pub invariant-loop-at : goal.invariant-loop-at
+invariant-loop-at l =
     string_bytes l.text
-    ++ lines_text (states_lines l.limits l.lines l.number-counter (states_in (drop l.number-counter l.told.automaton)) (tellings_in (drop l.number-counter l.told.rows)))
+    ++ lines_text (states_lines l.limits l.lines l.at (states_in (drop l.at l.told.automaton)) (tellings_in (drop l.at l.told.rows)))
     ≡ string_bytes l.initial.text ++ lines_text (states_lines l.limits l.lines 0 (states_in l.told.automaton) (tellings_in l.told.rows))
