@@ -1,5 +1,5 @@
 pub mod States
 pub mod Searches
-pub mod Explaining
+pub mod InTurn
 pub mod Writable
 pub mod Chosen

@@ -1,5 +1,5 @@
 use Rattle.pc_table.specs.StoredTable.{table_of}
-use Rattle.pc_explain.proofs.Explaining.{GoesOn}
+use Rattle.pc_explain.proofs.InTurn.{GoesOn}
 use Rattle.pc_explain.proofs.explaining.explain_loops.Given as goal
 
 abbrev pub invariant-loop-choice : goal.invariant-loop-choice
