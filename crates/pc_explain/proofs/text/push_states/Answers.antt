@@ -15,7 +15,7 @@ loop-at-preserved c =
     let old = string_bytes c.loop-at.text in
     let here = lines_text (state_lines c.args.limits c.args.lines.now at (state_in c.state-state.result.now) (telling_in c.row-item.result)) in
     let later =
-        lines_text (states_lines c.args.limits c.args.lines.now (at + 1) (states_in (drop (at + 1) c.args.told.now.automaton)) (tellings_in (drop (at + 1) c.args.told.now.rows)))
+    lines_text (states_lines c.args.limits c.args.lines.now (at + 1) (states_in (drop (at + 1) c.args.told.now.automaton)) (tellings_in (drop (at + 1) c.args.told.now.rows)))
     in
     ap (λ (text : List ℕ). text ++ later) c.in_ok-push_state.ensures
     ∙ append_assoc old here later
