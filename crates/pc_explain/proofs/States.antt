@@ -12,7 +12,7 @@ use Rattle.pc_automaton.specs.declared.automaton.AutomatonState.{AutomatonState 
 use Rattle.pc_automaton.specs.Automaton.{AutomatonState, state_in, states_in}
 use Rattle.pc_automaton.specs.RowFits.{RowFits}
 use Rattle.pc_told.specs.declared.told_row.ToldRow.{ToldRow}
-use Rattle.pc_told.specs.Tellings.{Telling, telling_in, tellings_in}
+use Rattle.pc_told.specs.Tellings.{telling_in, tellings_in}
 use Rattle.pc_view.specs.Listing.{lines_text}
 use Rattle.pc_explain.specs.Text.{state_lines, states_lines}
 

@@ -1,5 +1,5 @@
 -- What is explained can be written.
-use Rattle.std.proofs.Common.{◌≡◌, ℕ, suc, ◌+◌, ◌-◌, ◌≤◌, List, length, Option, Some, None, sym, subst, arith}
+use Rattle.std.proofs.Common.{ℕ, ◌-◌, ◌≤◌, List, length, Option, Some, None, sym, subst, arith}
 use Rattle.std.specs.Prelude.{IfSome, slice_get}
 use Rattle.std.specs.List.{AllByRecursion}
 use Rattle.pc_word.specs.declared.item.Extent.{Extent}
@@ -7,7 +7,6 @@ use Rattle.pc_word.specs.declared.item.Limits.{Limits}
 use Rattle.pc_word.specs.MachineLimits.{most_rows}
 use Rattle.pc_word.specs.Ranges.{IsExtent}
 use Rattle.pc_table.specs.Table.{Table}
-use Rattle.pc_object.specs.declared.object.Note.{Note}
 use Rattle.pc_object.specs.ObjectText.{IsChoice}
 use Rattle.pc_compile.specs.declared.choice.Cause.{Cause}
 use Rattle.pc_compile.specs.declared.choice.Cause.TheVariants.{Rows, Live, Bytes}
@@ -15,7 +14,7 @@ use Rattle.pc_compile.specs.declared.choice.Choice.{Choice}
 use Rattle.pc_compile.specs.declared.choice.Form.{Form}
 use Rattle.pc_compile.specs.declared.choice.Form.TheVariants.{Pipelined, Packed, Plain}
 use Rattle.pc_compile.specs.Notes.{caused_note, packed_note, plain_notes, form_notes}
-use Rattle.pc_explain.specs.Explained.{Schedule, Explanation, search_extent, IsScheduleFor, IsExplained, HasTold, CanBeWritten}
+use Rattle.pc_explain.specs.Explained.{Schedule, Explanation, search_extent, IsScheduleFor, IsExplained, CanBeDrawn, CanBeWritten}
 use Rattle.pc_explain.specs.Explained.{AreExplained, none_left, passed_over, explained}
 
 -- ---- notes
@@ -48,18 +47,18 @@ module _ (table : Table) (limits : Limits) (extent : Extent) (is : IsExtent exte
   few_rows Packed = omega arith
   few_rows Plain = tt
 
-  schedule_has_told : (region : ℕ) (search : Option Extent) (schedule : Option Schedule) → IfSome search (λ extent. extent.rows ≤ most_rows)
-      → IsScheduleFor table limits region search schedule → IfSome schedule (HasTold limits)
-  schedule_has_told region None None few is = tt
-  schedule_has_told region None (Some schedule) few is = absurd is
-  schedule_has_told region (Some search) None few is = absurd is
-  schedule_has_told region (Some search) (Some schedule) few is =
+  schedule_can : (region : ℕ) (search : Option Extent) (schedule : Option Schedule) → IfSome search (λ extent. extent.rows ≤ most_rows)
+      → IsScheduleFor table limits region search schedule → IfSome schedule (CanBeDrawn limits)
+  schedule_can region None None few is = tt
+  schedule_can region None (Some schedule) few is = absurd is
+  schedule_can region (Some search) None few is = absurd is
+  schedule_can region (Some search) (Some schedule) few is =
       let states = is.found.few in record { few = omega (arith, states, few); fits = is.found.fits; as_many = is.told.as_many }
 
   one_can : (line : ℕ) (choice : Choice) (explanation : Explanation) → IsExplained table limits extent line choice explanation → CanBeWritten limits explanation
   one_can line choice explanation is = record {
     known = subst (AllByRecursion IsChoice) (sym is.noted) (form_known line choice.form choice.causes);
-    has_told = schedule_has_told choice.region (search_extent extent choice.form) explanation.schedule (few_rows choice.form) is.scheduled;
+    drawn = schedule_can choice.region (search_extent extent choice.form) explanation.schedule (few_rows choice.form) is.scheduled;
   }
 
   pub all_can : {asked : Option ℕ} {choices : List Choice} {explanations : List Explanation}

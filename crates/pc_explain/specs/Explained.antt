@@ -35,13 +35,15 @@ pub record Explanation : Type 0 where
   pub notes : List Note
   pub schedule : Option Schedule
 
--- the same in memory
+-- the schedule in memory
 abbrev pub schedule_in : Told → Schedule
 schedule_in told = record { states = states_in told.automaton; tellings = tellings_in told.rows }
 
+-- the explanation in memory
 abbrev pub explanation_in : LoopExplanation → Explanation
 explanation_in it = record { notes = note_list it.note; schedule = option_map schedule_in it.schedule }
 
+-- those of a list
 abbrev pub explanations_in : List LoopExplanation → List Explanation
 explanations_in loops = map explanation_in loops
 
@@ -106,13 +108,13 @@ pub record HasChosen (table : Table) (limits : Limits) (extent : Extent) (choice
 
 -- ---- what can be written
 
--- a schedule that can be written: it has few states, each row is within limits, and one row is told for each
-pub record HasTold (limits : Limits) (schedule : Schedule) : Type 0 where
+-- a schedule that can be drawn: it has few states, the row of each is within limits, and one row is told for each
+pub record CanBeDrawn (limits : Limits) (schedule : Schedule) : Type 0 where
   pub few : length schedule.states ≤ most_rows
   pub fits : AllByRecursion (λ state. RowFits limits state.row) schedule.states
   pub as_many : length schedule.tellings ≡ length schedule.states
 
--- an explanation that can be written: the choice of its note is known, and so can be its schedule
+-- an explanation that can be written: the choice of its note is known, and its schedule can be drawn
 pub record CanBeWritten (limits : Limits) (explanation : Explanation) : Type 0 where
   pub known : AllByRecursion IsChoice explanation.notes
-  pub has_told : IfSome explanation.schedule (HasTold limits)
+  pub drawn : IfSome explanation.schedule (CanBeDrawn limits)

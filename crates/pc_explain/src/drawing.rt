@@ -46,36 +46,20 @@ pub(crate) fn push_tree(
             ToldRow::Test {
                 iteration,
                 origin,
-                yes: told_yes,
-                no: told_no,
+                yes: one,
+                no: other,
                 ..
             },
         ) => {
             let place = place(lines, *iteration, *origin);
             let on = shown(*on);
             writeln!(text, "{first}{place}if {on}")?;
-            let beside = format!(in alloc; "{below}yes ")?;
-            let under = format!(in alloc; "{below}|   ")?;
-            push_tree(
-                alloc,
-                text,
-                lines,
-                beside.as_str(),
-                under.as_str(),
-                yes,
-                told_yes,
-            )?;
-            let beside = format!(in alloc; "{below}no  ")?;
-            let under = format!(in alloc; "{below}    ")?;
-            push_tree(
-                alloc,
-                text,
-                lines,
-                beside.as_str(),
-                under.as_str(),
-                no,
-                told_no,
-            )
+            let head = format!(in alloc; "{below}yes ")?;
+            let tail = format!(in alloc; "{below}|   ")?;
+            push_tree(alloc, text, lines, head.as_str(), tail.as_str(), yes, one)?;
+            let head = format!(in alloc; "{below}no  ")?;
+            let tail = format!(in alloc; "{below}    ")?;
+            push_tree(alloc, text, lines, head.as_str(), tail.as_str(), no, other)
         }
         (RowTree::Leaf { leaf }, ToldRow::Leaf { advance }) => {
             text.push_str(first)?;

@@ -10,7 +10,7 @@ ghost use Rattle.pc_object.specs.ObjectText.{IsChoice};
 ghost use Rattle.pc_report.specs.Report.{note_words};
 ghost use Rattle.pc_view.specs.Listing.{lines_text};
 ghost use Rattle.pc_compile.specs.Notes.{note_list};
-ghost use Rattle.pc_explain.specs.Explained.{schedule_in, explanation_in, explanations_in, HasTold, CanBeWritten};
+ghost use Rattle.pc_explain.specs.Explained.{schedule_in, explanation_in, explanations_in, CanBeDrawn, CanBeWritten};
 ghost use Rattle.pc_explain.specs.Text.{count_words, heading, state_lines, states_lines, schedule_lines, explanation_lines};
 ghost use Rattle.pc_explain.specs.Text.{no_loop_words, no_loop_lines, explanation_text};
 ghost use Rattle.pc_explain.specs.models.Counted.{HasFew};
@@ -117,7 +117,7 @@ fn push_schedule(
     lines: &[u32],
     schedule: &Option<Told>,
 ) -> Result<(), AllocError>
-    requires { IfSome (option_map schedule_in schedule.now) (HasTold limits) }
+    requires { IfSome (option_map schedule_in schedule.now) (CanBeDrawn limits) }
     ensures { OnOk result (string_bytes text.new ≡ string_bytes text.old ++ lines_text (schedule_lines limits lines.now (option_map schedule_in schedule.now))) }
 {
     match schedule {
@@ -134,7 +134,7 @@ fn push_states(
     lines: &[u32],
     told: &Told,
 ) -> Result<(), AllocError>
-    requires { HasTold limits (schedule_in told.now) }
+    requires { CanBeDrawn limits (schedule_in told.now) }
     ensures { OnOk result (string_bytes text.new ≡ string_bytes text.old
         ++ lines_text (states_lines limits lines.now 0 (states_in told.now.automaton) (tellings_in told.now.rows))) }
 {
