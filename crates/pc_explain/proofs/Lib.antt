@@ -3,3 +3,4 @@ pub mod Searches
 pub mod InTurn
 pub mod Writable
 pub mod Chosen
+pub mod Told

@@ -6,6 +6,7 @@ mod counts;
 mod drawing;
 mod explaining;
 mod explanation;
+mod laws;
 mod leaves;
 mod searching;
 mod text;
@@ -13,6 +14,7 @@ mod words;
 
 pub use explaining::explain_loops;
 pub use explanation::LoopExplanation;
+pub use laws::law_of_explained_loops;
 use pc_word::Seq;
 pub use text::explanation_text;
 
