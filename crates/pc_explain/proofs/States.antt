@@ -22,18 +22,18 @@ pub state_fits : (limits : Limits) (states : List StoredState) (at : ℕ) (state
 state_fits limits states at state here all =
     all_at (λ (it : AutomatonState). RowFits limits it.row) (states_in states) at (state_in state) all (map_at state_in states at state here)
 
-module _ (limits : Limits) (lines : List ℕ) (states : List StoredState) (rows : List ToldRow) where
+module _ (limits : Limits) (lines : List ℕ) (region : ℕ) (states : List StoredState) (rows : List ToldRow) where
   -- the lines of the states from a place on begin with those of the state there
   abbrev pub text_from : ℕ → List ℕ
-  text_from at = lines_text (states_lines limits lines at (states_in (drop at states)) (tellings_in (drop at rows)))
+  text_from at = lines_text (states_lines limits lines region at (states_in (drop at states)) (tellings_in (drop at rows)))
 
   pub text_at : (at : ℕ) (state : StoredState) (row : ToldRow) → slice_get states at ≡ Some state → at < length rows → row ≡ slice_index_or rows at row
-      → text_from at ≡ lines_text (state_lines limits lines at (state_in state) (telling_in row)) ++ text_from (at + 1)
+      → text_from at ≡ lines_text (state_lines limits lines region at (state_in state) (telling_in row)) ++ text_from (at + 1)
   text_at at state row here within is =
       let one : suc at ≡ at + 1 = omega arith in
       let later = tellings_in (drop (at + 1) rows) in
-      ap (λ (rest : List StoredState). lines_text (states_lines limits lines at (states_in rest) (tellings_in (drop at rows)))) (drop_at states at state here)
-      ∙ ap (λ (rest : List ToldRow). lines_text (states_lines limits lines at (states_in (state ∷ drop (suc at) states)) (tellings_in rest)))
+      ap (λ (rest : List StoredState). lines_text (states_lines limits lines region at (states_in rest) (tellings_in (drop at rows)))) (drop_at states at state here)
+      ∙ ap (λ (rest : List ToldRow). lines_text (states_lines limits lines region at (states_in (state ∷ drop (suc at) states)) (tellings_in rest)))
       (drop_more rows at row within ∙ ap (λ (it : ToldRow). it ∷ drop (at + 1) rows) (sym is))
-      ∙ flat_map-append line (state_lines limits lines at (state_in state) (telling_in row)) (states_lines limits lines (suc at) (states_in (drop (suc at) states)) later)
-      ∙ ap (λ (n : ℕ). lines_text (state_lines limits lines at (state_in state) (telling_in row)) ++ lines_text (states_lines limits lines n (states_in (drop n states)) later)) one
+      ∙ flat_map-append line (state_lines limits lines region at (state_in state) (telling_in row)) (states_lines limits lines region (suc at) (states_in (drop (suc at) states)) later)
+      ∙ ap (λ (n : ℕ). lines_text (state_lines limits lines region at (state_in state) (telling_in row)) ++ lines_text (states_lines limits lines region n (states_in (drop n states)) later)) one

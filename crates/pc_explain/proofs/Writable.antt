@@ -14,7 +14,7 @@ use Rattle.pc_compile.specs.declared.choice.Choice.{Choice}
 use Rattle.pc_compile.specs.declared.choice.Form.{Form}
 use Rattle.pc_compile.specs.declared.choice.Form.TheVariants.{Pipelined, Packed, Plain}
 use Rattle.pc_compile.specs.Notes.{caused_note, packed_note, plain_notes, form_notes}
-use Rattle.pc_explain.specs.Explained.{Schedule, Explanation, search_extent, IsScheduleFor, IsExplained, CanBeDrawn, CanBeWritten}
+use Rattle.pc_explain.specs.Explained.{LoopSchedule, Explanation, search_extent, IsScheduleFor, IsExplained, ScheduleCanBeWritten, CanBeWritten}
 use Rattle.pc_explain.specs.Explained.{AreExplained, none_left, passed_over, explained}
 
 -- ---- notes
@@ -47,8 +47,8 @@ module _ (table : Table) (limits : Limits) (extent : Extent) (is : IsExtent exte
   few_rows Packed = omega arith
   few_rows Plain = tt
 
-  schedule_can : (region : ℕ) (search : Option Extent) (schedule : Option Schedule) → IfSome search (λ extent. extent.rows ≤ most_rows)
-      → IsScheduleFor table limits region search schedule → IfSome schedule (CanBeDrawn limits)
+  schedule_can : (region : ℕ) (search : Option Extent) (schedule : Option LoopSchedule) → IfSome search (λ extent. extent.rows ≤ most_rows)
+      → IsScheduleFor table limits region search schedule → IfSome schedule (ScheduleCanBeWritten limits)
   schedule_can region None None few is = tt
   schedule_can region None (Some schedule) few is = absurd is
   schedule_can region (Some search) None few is = absurd is
@@ -58,7 +58,7 @@ module _ (table : Table) (limits : Limits) (extent : Extent) (is : IsExtent exte
   one_can : (line : ℕ) (choice : Choice) (explanation : Explanation) → IsExplained table limits extent line choice explanation → CanBeWritten limits explanation
   one_can line choice explanation is = record {
     known = subst (AllByRecursion IsChoice) (sym is.noted) (form_known line choice.form choice.causes);
-    drawn = schedule_can choice.region (search_extent extent choice.form) explanation.schedule (few_rows choice.form) is.scheduled;
+    schedule = schedule_can choice.region (search_extent extent choice.form) explanation.schedule (few_rows choice.form) is.scheduled;
   }
 
   pub all_can : {asked : Option ℕ} {choices : List Choice} {explanations : List Explanation}

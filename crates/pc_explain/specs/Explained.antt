@@ -25,23 +25,24 @@ use Rattle.pc_explain.specs.declared.explanation.LoopExplanation.{LoopExplanatio
 
 -- ---- explanations
 
--- the states that a search found, and what is told of the row of each
-pub record Schedule : Type 0 where
+-- the states that a search found for the header of a loop, and what is told of the row of each
+pub record LoopSchedule : Type 0 where
   pub states : List AutomatonState
   pub tellings : List Telling
 
--- what is explained of a loop: its note, and its schedule, where its form has one
+-- what is explained of a loop: the region that is its header, its note, and its schedule, where its form has one
 pub record Explanation : Type 0 where
+  pub region : ℕ
   pub notes : List Note
-  pub schedule : Option Schedule
+  pub schedule : Option LoopSchedule
 
 -- the schedule in memory
-abbrev pub schedule_in : Told → Schedule
+abbrev pub schedule_in : Told → LoopSchedule
 schedule_in told = record { states = states_in told.automaton; tellings = tellings_in told.rows }
 
 -- the explanation in memory
 abbrev pub explanation_in : LoopExplanation → Explanation
-explanation_in it = record { notes = note_list it.note; schedule = option_map schedule_in it.schedule }
+explanation_in it = record { region = it.region; notes = note_list it.note; schedule = option_map schedule_in it.schedule }
 
 -- those of a list
 abbrev pub explanations_in : List LoopExplanation → List Explanation
@@ -57,19 +58,21 @@ search_extent extent Packed = Some (record { window = 1; rows = most_rows })
 search_extent extent Plain = None
 
 -- a schedule is what a search of this extent finds for a region, and what is told of it
-pub record IsScheduleOf (table : Table) (limits : Limits) (extent : Extent) (region : ℕ) (schedule : Schedule) : Type 0 where
+pub record IsScheduleOf (table : Table) (limits : Limits) (extent : Extent) (region : ℕ) (schedule : LoopSchedule) : Type 0 where
   pub found : IsFound (rules_for table limits extent.window) region extent.rows schedule.states
   pub told : AreTold (rules_for table limits extent.window) region extent.rows schedule.states schedule.tellings
 
 -- there is a schedule where there is a search, and it is this search's
-abbrev pub IsScheduleFor : Table → Limits → (region : ℕ) → Option Extent → Option Schedule → Type 0
+abbrev pub IsScheduleFor : Table → Limits → (region : ℕ) → Option Extent → Option LoopSchedule → Type 0
 IsScheduleFor table limits region None None = Unit {0}
 IsScheduleFor table limits region None (Some schedule) = ⊥
 IsScheduleFor table limits region (Some extent) None = ⊥
 IsScheduleFor table limits region (Some extent) (Some schedule) = IsScheduleOf table limits extent region schedule
 
--- what is explained of a loop at a line, for whose header this was chosen: the note of the choice, and the schedule of its form
+-- what is explained of a loop at a line, for whose header this was chosen: the region and the note of the choice, and the schedule of
+-- its form
 pub record IsExplained (table : Table) (limits : Limits) (extent : Extent) (line : ℕ) (choice : Choice) (explanation : Explanation) : Type 0 where
+  pub header : explanation.region ≡ choice.region
   pub noted : explanation.notes ≡ form_notes line choice.form choice.causes
   pub scheduled : IsScheduleFor table limits choice.region (search_extent extent choice.form) explanation.schedule
 
@@ -108,13 +111,13 @@ pub record HasChosen (table : Table) (limits : Limits) (extent : Extent) (choice
 
 -- ---- what can be written
 
--- a schedule that can be drawn: it has few states, the row of each is within limits, and one row is told for each
-pub record CanBeDrawn (limits : Limits) (schedule : Schedule) : Type 0 where
+-- a schedule that can be written: it has few states, the row of each is within limits, and one row is told for each
+pub record ScheduleCanBeWritten (limits : Limits) (schedule : LoopSchedule) : Type 0 where
   pub few : length schedule.states ≤ most_rows
   pub fits : AllByRecursion (λ state. RowFits limits state.row) schedule.states
   pub as_many : length schedule.tellings ≡ length schedule.states
 
--- an explanation that can be written: the choice of its note is known, and its schedule can be drawn
+-- an explanation that can be written: the choice of its note is known, and its schedule can be written
 pub record CanBeWritten (limits : Limits) (explanation : Explanation) : Type 0 where
   pub known : AllByRecursion IsChoice explanation.notes
-  pub drawn : IfSome explanation.schedule (CanBeDrawn limits)
+  pub schedule : IfSome explanation.schedule (ScheduleCanBeWritten limits)

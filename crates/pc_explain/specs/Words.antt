@@ -1,5 +1,5 @@
 -- The parts of a state's row in words. Names are the state's own, and have an `n` in front.
-use Rattle.std.specs.Prelude.{ℕ, zero, suc, List, [], ◌∷◌, ◌++◌, codes, Option, Some, None}
+use Rattle.std.specs.Prelude.{ℕ, zero, suc, nat_eq, if◌then◌else◌, List, [], ◌∷◌, ◌++◌, codes, Option, Some, None}
 use Rattle.std.specs.Fmt.{decimal, signed_decimal}
 use Rattle.pc_word.specs.declared.item.Operand.{Operand}
 use Rattle.pc_word.specs.declared.item.Operand.TheVariants.{Name, Lit}
@@ -92,14 +92,14 @@ advance_words (Some advance) = codes ", from +" ++ (decimal advance ++ codes " o
 unfoldable pub state_words : ℕ → List ℕ
 state_words state = codes "to state " ++ decimal state
 
--- the number of a region that is led to
-unfoldable pub region_words : ℕ → List ℕ
-region_words region = codes "to region " ++ decimal region
+-- the number of a region that is led to; where it is the header of the loop itself, that is the next iteration
+unfoldable pub region_words : (header region : ℕ) → List ℕ
+region_words header region = if nat_eq region header then codes "to the next iteration" else codes "to region " ++ decimal region
 
--- a leaf: the state that it leads to, what this is passed, and from which iteration on it goes; the region and the values of variables
--- there; the end; or the trap with its line
-abbrev pub leaf_words : AutomatonLeaf → (advance : Option ℕ) → List ℕ
-leaf_words (To state arguments) advance = state_words state ++ (arguments_from 0 arguments ++ advance_words advance)
-leaf_words (Out region homes) advance = region_words region ++ homes_from 0 homes
-leaf_words Stop advance = codes "stop"
-leaf_words (Trap kind line) advance = codes "trap: " ++ (trap_text kind ++ (codes " at line " ++ decimal line))
+-- a leaf of a loop with this header: the state that it leads to, what this is passed, and from which iteration on it goes; the region and
+-- the values of variables there; the end; or the trap with its line
+abbrev pub leaf_words : (header : ℕ) → AutomatonLeaf → (advance : Option ℕ) → List ℕ
+leaf_words header (To state arguments) advance = state_words state ++ (arguments_from 0 arguments ++ advance_words advance)
+leaf_words header (Out region homes) advance = region_words header region ++ homes_from 0 homes
+leaf_words header Stop advance = codes "stop"
+leaf_words header (Trap kind line) advance = codes "trap: " ++ (trap_text kind ++ (codes " at line " ++ decimal line))

@@ -12,19 +12,26 @@ use pc_told::ToldRow;
 use pc_word::RowTree;
 use std::alloc::{AllocError, Global};
 
+/// What the rows of a loop are drawn with: the line of the source of each node of the flow graph, and the region that is the header.
+#[derive(Clone, Copy)]
+pub(crate) struct Setting<'a> {
+    pub(crate) lines: &'a [u32],
+    pub(crate) region: u32,
+}
+
 /// Appends the lines of a row to a text, with what is told of it, which has the same shape. `first` stands in front of its first
-/// line, `below` in front of the others. `lines` has the line of the source of each node of the flow graph.
+/// line, `below` in front of the others.
 pub(crate) fn push_tree(
     alloc: Global,
     text: &mut String,
-    lines: &[u32],
+    setting: Setting,
     first: &str,
     below: &str,
     row: &RowTree<AutomatonLeaf>,
     told: &ToldRow,
 ) -> Result<(), AllocError>
     ensures { OnOk result (string_bytes text.new ≡ string_bytes text.old
-        ++ lines_text (tree_lines lines.now first.now below.now (row_in (λ leaf. leaf) row.now) (telling_in told.now))) }
+        ++ lines_text (tree_lines setting.entry.lines.now setting.entry.region first.now below.now (row_in (λ leaf. leaf) row.now) (telling_in told.now))) }
 {
     match (row, told) {
         (
@@ -36,10 +43,10 @@ pub(crate) fn push_tree(
                 ..
             },
         ) => {
-            let place = place(lines, *iteration, *origin);
+            let place = place(setting.lines, *iteration, *origin);
             let item = ItemWords { item: *item };
             writeln!(text, "{first}{place}{item}")?;
-            push_tree(alloc, text, lines, below, below, next, told_next)
+            push_tree(alloc, text, setting, below, below, next, told_next)
         }
         (
             RowTree::Test { on, yes, no },
@@ -51,19 +58,27 @@ pub(crate) fn push_tree(
                 ..
             },
         ) => {
-            let place = place(lines, *iteration, *origin);
+            let place = place(setting.lines, *iteration, *origin);
             let on = shown(*on);
             writeln!(text, "{first}{place}if {on}")?;
             let head = format!(in alloc; "{below}yes ")?;
             let tail = format!(in alloc; "{below}|   ")?;
-            push_tree(alloc, text, lines, head.as_str(), tail.as_str(), yes, one)?;
+            push_tree(alloc, text, setting, head.as_str(), tail.as_str(), yes, one)?;
             let head = format!(in alloc; "{below}no  ")?;
             let tail = format!(in alloc; "{below}    ")?;
-            push_tree(alloc, text, lines, head.as_str(), tail.as_str(), no, other)
+            push_tree(
+                alloc,
+                text,
+                setting,
+                head.as_str(),
+                tail.as_str(),
+                no,
+                other,
+            )
         }
         (RowTree::Leaf { leaf }, ToldRow::Leaf { advance }) => {
             text.push_str(first)?;
-            push_leaf(text, leaf, *advance)?;
+            push_leaf(text, setting.region, leaf, *advance)?;
             text.push_str("\n")
         }
         _ => Ok(()),

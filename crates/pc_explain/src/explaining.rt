@@ -20,6 +20,9 @@ use std::alloc::Global;
 /// in the order of the choices, one explanation for each region that heads such a loop. With a line, a line of the source counted from
 /// 1, only loops whose keyword stands at it are explained.
 ///
+/// A loop of whose header no choice was given, since a pass removed it or no run comes to it, is not among them. Of a packed loop whose
+/// body has several regions, the header's states alone are told.
+///
 /// It takes one search for each loop whose form is not plain, the one that found the form. It fails where memory runs out.
 pub fn explain_loops(
     alloc: Global,
@@ -65,6 +68,7 @@ fn explain(
         Some(extent) => Some(schedule(alloc, table, choice.region, limits, extent)?),
     };
     Ok(LoopExplanation {
+        region: choice.region,
         note: choice.note(line),
         schedule,
     })
@@ -93,11 +97,7 @@ fn if_asked(asked: Option<u32>, line: Option<u32>) -> Option<u32>
     match (asked, line) {
         (_, None) => None,
         (None, Some(line)) => Some(line),
-        (Some(asked), Some(line)) => {
-            if asked != line {
-                return None;
-            }
-            Some(line)
-        }
+        (Some(asked), Some(line)) if asked == line => Some(line),
+        (Some(_), Some(_)) => None,
     }
 }

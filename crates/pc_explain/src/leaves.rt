@@ -10,13 +10,15 @@ use pc_window::Home;
 use pc_word::Operand;
 use std::alloc::AllocError;
 
-/// Appends a leaf to a text. `advance` is the first iteration of which anything is left there, if anything is.
+/// Appends a leaf of a loop, whose header is this region, to a text. `advance` is the first iteration of which anything is left there,
+/// if anything is.
 pub(crate) fn push_leaf(
     text: &mut String,
+    header: u32,
     leaf: &AutomatonLeaf,
     advance: Option<u32>,
 ) -> Result<(), AllocError>
-    ensures { OnOk result (string_bytes text.new ≡ string_bytes text.old ++ leaf_words leaf.now advance) }
+    ensures { OnOk result (string_bytes text.new ≡ string_bytes text.old ++ leaf_words header leaf.now advance) }
 {
     match leaf {
         AutomatonLeaf::To { state, arguments } => {
@@ -25,7 +27,7 @@ pub(crate) fn push_leaf(
             push_advance(text, advance)
         }
         AutomatonLeaf::Out { region, homes } => {
-            push_region_number(text, *region)?;
+            push_region_number(text, header, *region)?;
             push_homes(text, homes.as_slice())
         }
         AutomatonLeaf::Stop => text.push_str("stop"),
@@ -44,11 +46,14 @@ fn push_state_number(text: &mut String, state: u32) -> Result<(), AllocError>
     write!(text, "to state {state}")
 }
 
-/// Appends the number of a region that is led to.
+/// Appends the number of a region that is led to, or, where it is the header of the loop, that this is the next iteration.
 #[tactic(auto, unfolding(crate::specs::Words::region_words))]
-fn push_region_number(text: &mut String, region: u32) -> Result<(), AllocError>
-    ensures { OnOk result (string_bytes text.new ≡ string_bytes text.old ++ region_words region) }
+fn push_region_number(text: &mut String, header: u32, region: u32) -> Result<(), AllocError>
+    ensures { OnOk result (string_bytes text.new ≡ string_bytes text.old ++ region_words header region) }
 {
+    if region == header {
+        return text.push_str("to the next iteration");
+    }
     write!(text, "to region {region}")
 }
 

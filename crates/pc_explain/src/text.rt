@@ -10,13 +10,13 @@ ghost use Rattle.pc_object.specs.ObjectText.{IsChoice};
 ghost use Rattle.pc_report.specs.Report.{note_words};
 ghost use Rattle.pc_view.specs.Listing.{lines_text};
 ghost use Rattle.pc_compile.specs.Notes.{note_list};
-ghost use Rattle.pc_explain.specs.Explained.{schedule_in, explanation_in, explanations_in, CanBeDrawn, CanBeWritten};
+ghost use Rattle.pc_explain.specs.Explained.{schedule_in, explanation_in, explanations_in, ScheduleCanBeWritten, CanBeWritten};
 ghost use Rattle.pc_explain.specs.Text.{count_words, heading, state_lines, states_lines, schedule_lines, explanation_lines};
 ghost use Rattle.pc_explain.specs.Text.{no_loop_words, no_loop_lines, explanation_text};
 ghost use Rattle.pc_explain.specs.models.Counted.{HasFew};
 
 use crate::counts::count;
-use crate::drawing::push_tree;
+use crate::drawing::{Setting, push_tree};
 use crate::explanation::LoopExplanation;
 use crate::leaves::push_parameters;
 use pc_automaton::{AutomatonLeaf, AutomatonState};
@@ -29,9 +29,17 @@ use pc_word::{Limits, RowTree};
 use std::alloc::{AllocError, Global};
 
 /// Explanations of loops as a text to be read: for each loop a line of its note, and for each state of its schedule a line with what
-/// its row has of what it may have and what it takes, and the row, drawn as the tree that it is. In front of each item and test stands
-/// its iteration, and the line of the source that it comes from, by the line of each node of the flow graph in `lines`. Where there are
-/// no explanations, one line says so, of the line that was asked for, if one was.
+/// its row has of what it may have and what it takes, and the row, drawn as the tree that it is. Where there are no explanations, one
+/// line says so, of the line that was asked for, if one was.
+///
+/// `n98` is a name of the state: of a value that it takes, or that its row writes. `v0` is variable 0 of the flow graph, and `a1` its
+/// array 1. In front of each item and test stands its iteration, where `+0` is the first one of which anything is left as the row
+/// begins, and the line of the source that it comes from, by the line of each node of the flow graph in `lines`. `to state 2 (n5), from
+/// +1 on` leads to state 2, passes it a value, and leaves nothing of an iteration before `+1`; since what is left is tidied before the
+/// state begins, that may begin with a later one.
+///
+/// The rows are those of the states before names get registers, and before the rows of the object are tightened: state 2 is no row 2 of
+/// a listing of `pview`.
 pub fn explanation_text(
     alloc: Global,
     limits: Limits,
@@ -92,7 +100,11 @@ fn push_explanation(
     ensures { OnOk result (string_bytes text.new ≡ string_bytes text.old ++ lines_text (explanation_lines limits lines.now (explanation_in it.now))) }
 {
     push_note(text, it.note)?;
-    push_schedule(alloc, text, limits, lines, &it.schedule)
+    let setting = Setting {
+        lines,
+        region: it.region,
+    };
+    push_schedule(alloc, text, limits, setting, &it.schedule)
 }
 
 /// Appends the line of a note to a text, if there is one.
@@ -114,15 +126,15 @@ fn push_schedule(
     alloc: Global,
     text: &mut String,
     limits: Limits,
-    lines: &[u32],
+    setting: Setting,
     schedule: &Option<Told>,
 ) -> Result<(), AllocError>
-    requires { IfSome (option_map schedule_in schedule.now) (CanBeDrawn limits) }
-    ensures { OnOk result (string_bytes text.new ≡ string_bytes text.old ++ lines_text (schedule_lines limits lines.now (option_map schedule_in schedule.now))) }
+    requires { IfSome (option_map schedule_in schedule.now) (ScheduleCanBeWritten limits) }
+    ensures { OnOk result (string_bytes text.new ≡ string_bytes text.old ++ lines_text (schedule_lines limits setting.entry.lines.now setting.entry.region (option_map schedule_in schedule.now))) }
 {
     match schedule {
         None => Ok(()),
-        Some(told) => push_states(alloc, text, limits, lines, told),
+        Some(told) => push_states(alloc, text, limits, setting, told),
     }
 }
 
@@ -131,17 +143,17 @@ fn push_states(
     alloc: Global,
     text: &mut String,
     limits: Limits,
-    lines: &[u32],
+    setting: Setting,
     told: &Told,
 ) -> Result<(), AllocError>
-    requires { CanBeDrawn limits (schedule_in told.now) }
+    requires { ScheduleCanBeWritten limits (schedule_in told.now) }
     ensures { OnOk result (string_bytes text.new ≡ string_bytes text.old
-        ++ lines_text (states_lines limits lines.now 0 (states_in told.now.automaton) (tellings_in told.now.rows))) }
+        ++ lines_text (states_lines limits setting.entry.lines.now setting.entry.region 0 (states_in told.now.automaton) (tellings_in told.now.rows))) }
 {
     for (at, row) in told.rows.as_slice().iter().enumerate() {
         let number = at as u32;
         let state = told.automaton.state(number);
-        push_state(alloc, text, limits, lines, number, state, row)?;
+        push_state(alloc, text, limits, setting, number, state, row)?;
     }
     Ok(())
 }
@@ -151,17 +163,19 @@ fn push_state(
     alloc: Global,
     text: &mut String,
     limits: Limits,
-    lines: &[u32],
+    setting: Setting,
     number: u32,
     state: &AutomatonState,
     told: &ToldRow,
 ) -> Result<(), AllocError>
     requires { RowFits limits (state_in state.now).row }
     ensures { OnOk result (string_bytes text.new ≡ string_bytes text.old
-        ++ lines_text (state_lines limits lines.now number (state_in state.now) (telling_in told.now))) }
+        ++ lines_text (state_lines limits setting.entry.lines.now setting.entry.region number (state_in state.now) (telling_in told.now))) }
 {
     push_heading(text, limits, number, state)?;
-    push_tree(alloc, text, lines, "        ", "        ", &state.row, told)
+    push_tree(
+        alloc, text, setting, "        ", "        ", &state.row, told,
+    )
 }
 
 /// Appends the first line of a state to a text.

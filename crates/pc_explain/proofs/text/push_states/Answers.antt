@@ -13,13 +13,13 @@ pub loop-at-preserved : goal.loop-at-preserved
 loop-at-preserved c =
     let at = c.loop-at.at in
     let old = string_bytes c.loop-at.text in
-    let here = lines_text (state_lines c.args.limits c.args.lines.now at (state_in c.state-state.result.now) (telling_in c.row-item.result)) in
+    let here = lines_text (state_lines c.args.limits c.args.setting.lines.now c.args.setting.region at (state_in c.state-state.result.now) (telling_in c.row-item.result)) in
     let later =
-    lines_text (states_lines c.args.limits c.args.lines.now (at + 1) (states_in (drop (at + 1) c.args.told.now.automaton)) (tellings_in (drop (at + 1) c.args.told.now.rows)))
+    lines_text (states_lines c.args.limits c.args.setting.lines.now c.args.setting.region (at + 1) (states_in (drop (at + 1) c.args.told.now.automaton)) (tellings_in (drop (at + 1) c.args.told.now.rows)))
     in
     ap (λ (text : List ℕ). text ++ later) c.in_ok-push_state.ensures
     ∙ append_assoc old here later
     ∙ ap (λ (text : List ℕ). old ++ text)
-    (sym (text_at c.args.limits c.args.lines.now c.args.told.now.automaton c.args.told.now.rows at c.state-state.result.now c.row-item.result
+    (sym (text_at c.args.limits c.args.setting.lines.now c.args.setting.region c.args.told.now.automaton c.args.told.now.rows at c.state-state.result.now c.row-item.result
     c.state-state.ensures (rw c.as_slice-row-items.ensures at c.loop-at-test.true) (rw c.as_slice-row-items.ensures at c.row-item.is)))
     ∙ c.loop-at.invariant

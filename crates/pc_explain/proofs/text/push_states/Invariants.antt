@@ -9,5 +9,5 @@ use Rattle.pc_explain.proofs.text.push_states.Given as goal
 abbrev pub invariant-loop-at : goal.invariant-loop-at
 invariant-loop-at l =
     string_bytes l.text
-    ++ lines_text (states_lines l.limits l.lines l.at (states_in (drop l.at l.told.automaton)) (tellings_in (drop l.at l.told.rows)))
-    ≡ string_bytes l.initial.text ++ lines_text (states_lines l.limits l.lines 0 (states_in l.told.automaton) (tellings_in l.told.rows))
+    ++ lines_text (states_lines l.limits l.setting.lines.now l.setting.region l.at (states_in (drop l.at l.told.automaton)) (tellings_in (drop l.at l.told.rows)))
+    ≡ string_bytes l.initial.text ++ lines_text (states_lines l.limits l.setting.lines.now l.setting.region 0 (states_in l.told.automaton) (tellings_in l.told.rows))
