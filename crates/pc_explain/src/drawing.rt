@@ -61,20 +61,12 @@ pub(crate) fn push_tree(
             let place = place(setting.lines, *iteration, *origin);
             let on = shown(*on);
             writeln!(text, "{first}{place}if {on}")?;
-            let head = format!(in alloc; "{below}yes ")?;
-            let tail = format!(in alloc; "{below}|   ")?;
-            push_tree(alloc, text, setting, head.as_str(), tail.as_str(), yes, one)?;
-            let head = format!(in alloc; "{below}no  ")?;
-            let tail = format!(in alloc; "{below}    ")?;
-            push_tree(
-                alloc,
-                text,
-                setting,
-                head.as_str(),
-                tail.as_str(),
-                no,
-                other,
-            )
+            let mark = format!(in alloc; "{below}yes ")?;
+            let bar = format!(in alloc; "{below}|   ")?;
+            push_tree(alloc, text, setting, mark.as_str(), bar.as_str(), yes, one)?;
+            let mark = format!(in alloc; "{below}no  ")?;
+            let bar = format!(in alloc; "{below}    ")?;
+            push_tree(alloc, text, setting, mark.as_str(), bar.as_str(), no, other)
         }
         (RowTree::Leaf { leaf }, ToldRow::Leaf { advance }) => {
             text.push_str(first)?;
