@@ -4,5 +4,6 @@ pub mod Inputs
 pub mod Taken
 pub mod Objects
 pub mod Results
+pub mod SentTexts
 pub mod Statuses
 pub mod Streams

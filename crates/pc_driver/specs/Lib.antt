@@ -5,6 +5,7 @@ pub mod Files
 pub mod Objects
 pub mod Input
 pub mod Stops
+pub mod Sending
 pub mod Telling
 pub mod Due
 pub mod ToldFile

@@ -5,6 +5,7 @@
 mod file;
 mod line;
 mod loading;
+mod sending;
 mod stop;
 mod telling;
 mod words;
@@ -12,6 +13,7 @@ mod words;
 pub use file::{FileError, read_whole};
 pub use line::send_line;
 pub use loading::{load, take_numbers};
+pub use sending::send_text;
 pub use stop::{Stop, fault_at};
 pub use telling::tell;
 pub use words::read_words;

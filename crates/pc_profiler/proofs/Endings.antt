@@ -2,7 +2,6 @@
 use Rattle.std.proofs.Common.{◌≡◌, ℕ, ◌+◌, ◌⊎◌, inl, inr, List, Option, Some, None, refl, sym, subst}
 use Rattle.std.specs.Prelude.{IsSome}
 use Rattle.std.specs.Io.KnownBytes.{Appends}
-use Rattle.pc_word.specs.Count.{Rose}
 use Rattle.pc_word.specs.MachineLimits.{most_input}
 use Rattle.pc_outside.specs.Shelf.{Shelved, ReadFaultOf, ReadKeeps}
 use Rattle.pc_outside.specs.Stream.{AppendsPart, LosesFront}
@@ -14,6 +13,7 @@ use Rattle.pc_driver.specs.Due.{Told}
 use Rattle.pc_driver.specs.Input.{Loaded}
 use Rattle.pc_driver.specs.Objects.{HoldsObject}
 use Rattle.pc_driver.specs.Outside.{Outside}
+use Rattle.pc_driver.specs.Sending.{SendsAll, Sent_whole, Sent_part}
 use Rattle.pc_driver.specs.Stops.{StopsAtInput, StopsAtObject, StopsEarly, StopEnds, Due_memory, Due_object_read, Due_object, Due_input_read, Due_input}
 use Rattle.pc_driver.specs.Streams.{Streamed}
 use Rattle.pc_driver.specs.declared.stop.Stop.{Stop}
@@ -22,18 +22,7 @@ use Rattle.pc_driver.proofs.Streams.{sends_all, sends_part}
 use Rattle.pc_profiler.specs.Cost.{cost_text}
 use Rattle.pc_profiler.specs.Profiler.{ProfilerEnds, Profiled, Misused, Unread, Refused, Untaken, Misspelt, Broke, Lacking}
 use Rattle.pc_profiler.specs.Profiler.{ProfilerLacks, Untouched, Loading, Sending, ProfilerPromise}
-use Rattle.pc_profiler.specs.models.Profiling.{SendsAll, Sent_whole, Sent_part, TellsCost}
-
--- ---- the output
-
-pub sent_whole : (text : List ℕ) (old new : Streamed) → Appends old.told new.told text → SendsAll text old new None
-sent_whole text old new sent = Sent_whole sent
-
-pub sent_part : (text : List ℕ) (old new : Streamed) → Rose old.faults new.faults → AppendsPart old.told new.told text
-    → SendsAll text old new (Some (fault.WriteOutput Pstat))
-sent_part text old new rose part = Sent_part rose part
-
-pub ruleset sends_due = (sent_whole, sent_part)
+use Rattle.pc_profiler.specs.models.Profiling.{TellsCost}
 
 -- ---- each step
 
@@ -75,7 +64,7 @@ module _ (request : StatRequest) (old new : Shelved) (input input_now out : Stre
 
   -- there was one
   pub text_ends : (out_now : Streamed) (text : List ℕ) (due : Option ToolFault) → TellsCost request old.held input.told text
-      → SendsAll text out out_now due → ProfilerEnds old new input input_now out out_now (Some request) due
+      → SendsAll Pstat text out out_now due → ProfilerEnds old new input input_now out out_now (Some request) due
   text_ends out_now text due cost (Sent_whole sent) =
       let loaded : Loaded request.object old.held input.told cost.object cost.tells.numbers = record { in_file = cost.in_file; in_input = cost.tells.in_input } in
       Profiled loaded (subst (λ t. Appends out.told out_now.told t) cost.tells.is sent)

@@ -9,15 +9,15 @@ ghost use Rattle.pc_object.specs.ObjectText.{object_of, IsObject};
 ghost use Rattle.pc_outside.specs.Shelf.{ReadKeeps};
 ghost use Rattle.pc_outside.specs.Stream.{LosesFront};
 ghost use Rattle.pc_profiler.specs.Profiler.{ProfilerEnds, ProfilerPromise};
-ghost use Rattle.pc_profiler.specs.models.Profiling.{SendsAll, TellsCost, TellsOn};
+ghost use Rattle.pc_profiler.specs.models.Profiling.{TellsCost, TellsOn};
 ghost use Rattle.pc_word.specs.MachineLimits.{most_input};
 ghost use Rattle.pc_word.specs.Ranges.{AreCycles};
 
 use crate::cost::cost_text;
 use pc_command::{CommandError, StatCommand, stat_command};
-use pc_driver::{Stop, fault_at, load, take_numbers, tell};
+use pc_driver::{Stop, fault_at, load, send_text, take_numbers, tell};
 use pc_object::Object;
-use pc_outside::{Shelf, Sink, Source, send};
+use pc_outside::{Shelf, Sink, Source};
 use pc_report::{Speaker, ToolFault};
 use std::alloc::Global;
 
@@ -98,7 +98,7 @@ fn profile_object<'a, H: Shelf, I: Source, O: Sink>(
     ensures lost { LosesFront (I.left input.old) (I.left input.new) (most_input + 1) }
 {
     match text_asked(alloc, command, shelf, input) {
-        Ok(text) => send_text(text.as_slice(), out),
+        Ok(text) => send_text(Speaker::Pstat, text.as_slice(), out),
         Err(stop) => Some(fault_at(Speaker::Pstat, stop, command.object)),
     }
 }
@@ -136,17 +136,4 @@ fn text_on<I: Source>(
 {
     let numbers = take_numbers(alloc, input)?;
     Ok(cost_text(alloc, command, object, numbers)?)
-}
-
-/// Sends a text, and gives what is due then.
-#[tactic(auto, using(crate::proofs::Endings::sends_due))]
-fn send_text<'a, O: Sink>(text: &[u8], out: &mut O) -> Option<ToolFault<'a>>
-    ensures { SendsAll text.now (streamed (O.taken out.old) (O.faults out.old)) (streamed (O.taken out.new) (O.faults out.new)) result }
-{
-    match send(out, text) {
-        Ok(()) => None,
-        Err(_) => Some(ToolFault::WriteOutput {
-            who: Speaker::Pstat,
-        }),
-    }
 }

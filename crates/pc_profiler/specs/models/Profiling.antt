@@ -1,19 +1,12 @@
 -- What each private answer of the profiler says of the outside before and after it.
-use Rattle.std.specs.Prelude.{◌≡◌, ℕ, ℤ, List, Option, Some, None}
-use Rattle.std.specs.Io.KnownBytes.{Appends}
-use Rattle.pc_word.specs.Count.{Rose}
+use Rattle.std.specs.Prelude.{◌≡◌, ℕ, ℤ, List, Option}
 use Rattle.pc_object.specs.ObjectText.{CodeWithNotes, IsObject}
 use Rattle.pc_outside.specs.Shelf.{Files}
-use Rattle.pc_outside.specs.Stream.{AppendsPart}
 use Rattle.pc_command.specs.Requests.{StatRequest}
 use Rattle.pc_count.specs.Counts.{RunProfile}
 use Rattle.pc_count.specs.Profiles.{IsProfileOf}
-use Rattle.pc_report.specs.declared.fault.Speaker.TheVariants.{Pstat}
-use Rattle.pc_report.specs.declared.fault.ToolFault.{ToolFault}
-use Rattle.pc_report.specs.declared.fault.ToolFault.TheVariants as fault
 use Rattle.pc_driver.specs.Input.{SpellsInput}
 use Rattle.pc_driver.specs.Objects.{Holds}
-use Rattle.pc_driver.specs.Streams.{Streamed}
 use Rattle.pc_profiler.specs.Cost.{cost_text, profile_on}
 
 -- an object was run on numbers for at most so many cycles, and this is its profile
@@ -34,8 +27,3 @@ pub record TellsCost (request : StatRequest) (held : Option Files) (left : Optio
   pub object : CodeWithNotes
   pub in_file : Holds held request.object object
   pub tells : TellsOn request object left text
-
--- a text was sent, or a part of it before the output failed
-pub data SendsAll (text : List ℕ) (out out_now : Streamed) : (due : Option ToolFault) → Type 0 where
-  Sent_whole : Appends out.told out_now.told text → SendsAll text out out_now None
-  Sent_part : Rose out.faults out_now.faults → AppendsPart out.told out_now.told text → SendsAll text out out_now (Some (fault.WriteOutput Pstat))

@@ -1,0 +1,5 @@
+pub mod models
+pub mod Explained
+pub mod Words
+pub mod Text
+pub mod Laws

@@ -1,0 +1,42 @@
+-- What is explained: of which program, compiled how, and as which text.
+use Rattle.std.specs.Prelude.{◌≡◌, ℕ, List, Option}
+use Rattle.pc_syntax.specs.Source.{ResolvedProgram}
+use Rattle.pc_syntax.specs.Unit.{TranslationUnit}
+use Rattle.pc_check.specs.Resolution.{resolved}
+use Rattle.pc_lines.specs.Lines.{lines_of}
+use Rattle.pc_flow.specs.FlowGraph.{FlowGraph}
+use Rattle.pc_table.specs.Table.{Table}
+use Rattle.pc_calls.specs.Inlining.{inlined_unit}
+use Rattle.pc_object.specs.ObjectText.{CodeWithNotes}
+use Rattle.pc_compile.specs.declared.choice.Choice.{Choice}
+use Rattle.pc_compile.specs.Compiled.{IsCompiled}
+use Rattle.pc_outside.specs.Shelf.{Files}
+use Rattle.pc_command.specs.Requests.{ExplainRequest}
+use Rattle.pc_source.specs.Files.{HasSource}
+use Rattle.pc_source.specs.Source.{IsSource}
+use Rattle.pc_explain.specs.Explained.{Explanation, AreExplained}
+use Rattle.pc_explain.specs.Text.{explanation_text}
+
+-- the text tells what is explained of the innermost loops that are asked for, where this was chosen for the regions of a table, and the
+-- nodes of its flow graph come from these lines
+pub record ExplainsLoops (request : ExplainRequest) (table : Table) (choices : List Choice) (lines text : List ℕ) : Type 0 where
+  pub explanations : List Explanation
+  pub of_choices : AreExplained table request.limits request.extent request.line choices explanations
+  pub told : text ≡ explanation_text request.limits lines request.line explanations
+
+-- The program is compiled under the limits and within the extent that are asked for, over some graph that the passes made of its own, as
+-- `Passed` says: these are the graph's regions, and this was chosen for them. The text explains the program's loops.
+pub record ExplainsProgram (Passed : FlowGraph → FlowGraph → Type 0) (request : ExplainRequest) (program : ResolvedProgram) (text : List ℕ) : Type 0 where
+  pub flow : FlowGraph
+  pub table : Table
+  pub choices : List Choice
+  pub object : CodeWithNotes
+  pub compiled : IsCompiled program Passed request.limits request.extent flow table choices object
+  pub loops : ExplainsLoops request table choices (lines_of program) text
+
+-- the source that is asked for is this unit's, and the text explains the unit's program
+pub record Explains (Passed : FlowGraph → FlowGraph → Type 0) (held : Option Files) (request : ExplainRequest) (unit : TranslationUnit) (text : List ℕ) : Type 0 where
+  pub source : List ℕ
+  pub in_source : HasSource held request.source source
+  pub is_source : IsSource source unit
+  pub program : ExplainsProgram Passed request (resolved (inlined_unit unit)) text

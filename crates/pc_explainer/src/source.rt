@@ -1,0 +1,163 @@
+//! What explains the source that a command names, as a text.
+ghost use Rattle.std.specs.Prelude.{◌≡◌, ◌≤◌, length, map, IfErr, IfOk, MatchResult, OnOk};
+ghost use Rattle.pc_check.specs.Checks.{resolved_of};
+ghost use Rattle.pc_check.specs.Sizes.{resolved_size};
+ghost use Rattle.pc_command.specs.Requests.{explain_request, source_place};
+ghost use Rattle.pc_compile.specs.Compiled.{IsUncompiled};
+ghost use Rattle.pc_explain.specs.Explained.{HasChosen};
+ghost use Rattle.pc_lines.specs.Lines.{lines_of};
+ghost use Rattle.pc_outside.specs.Shelf.{ReadKeeps};
+ghost use Rattle.pc_pass.specs.Pass.{Chain, EachRose};
+ghost use Rattle.pc_table.specs.StoredTable.{table_of};
+ghost use Rattle.pc_word.specs.Ranges.{AreLimits, IsExtent};
+ghost use Rattle.pc_word.specs.SourceLimits.{most_source};
+ghost use Rattle.pc_explainer.specs.Explanations.{ExplainsLoops, ExplainsProgram};
+ghost use Rattle.pc_explainer.specs.models.Explaining.{ExplainsSource, ExplainsText, StopsAtProgram, StopsAtSource, StopsAtText};
+
+use pc_check::Checked;
+use pc_command::ExplainCommand;
+use pc_compile::{CompileError, Compiled, compile_with};
+use pc_explain::{explain_loops, explanation_text};
+use pc_lines::lines;
+use pc_outside::Shelf;
+use pc_pass::Pass;
+use pc_report::{SourceFault, Speaker, ToolFault};
+use pc_source::{Refusal, SourceError, read_program, read_source};
+use pc_word::OutOfMemory;
+use std::alloc::Global;
+
+/// What explains the source that the command names. An error says what is due where nothing does.
+#[tactic(auto, using(crate::proofs::Sources::sources_due))]
+pub(crate) fn explanation_of_source<'a, P: Pass, H: Shelf>(
+    alloc: Global,
+    command: ExplainCommand<'a>,
+    passes: &mut Vec<P>,
+    shelf: &mut H,
+) -> Result<Vec<u8>, ToolFault<'a>>
+    requires limits { AreLimits command.limits }
+    requires extent { IsExtent command.extent }
+    ensures text { MatchResult result
+        (λ text. ExplainsSource (Chain P.does P.changed passes.old.items passes.new.items) (H.state shelf.old).held (explain_request command.entry) text.items)
+        (λ fault. StopsAtSource (source_place command.entry.source) (H.state shelf.old) (H.state shelf.new) fault) }
+    ensures keeps { ReadKeeps (H.state shelf.old) (H.state shelf.new) }
+    ensures named { map P.label passes.new.items ≡ map P.label passes.old.items }
+    ensures ran { OnOk result (EachRose (map P.runs passes.old.items) (map P.runs passes.new.items)) }
+{
+    match read_source(alloc, command.source, shelf) {
+        Ok(text) => explanation_of_text(alloc, text.as_slice(), command, passes),
+        Err(SourceError::Unread { name }) => Err(ToolFault::ReadFile {
+            who: Speaker::Pexplain,
+            name,
+        }),
+        Err(SourceError::TooLong) => Err(ToolFault::Source {
+            who: Speaker::Pexplain,
+            fault: SourceFault::TooLong,
+        }),
+        Err(SourceError::Memory) => Err(ToolFault::NoMemory {
+            who: Speaker::Pexplain,
+        }),
+    }
+}
+
+/// What explains a source's text.
+#[tactic(auto, using(crate::proofs::Sources::texts_due))]
+fn explanation_of_text<'a, P: Pass>(
+    alloc: Global,
+    text: &[u8],
+    command: ExplainCommand<'a>,
+    passes: &mut Vec<P>,
+) -> Result<Vec<u8>, ToolFault<'a>>
+    requires few_bytes { length text.now ≤ most_source }
+    requires limits { AreLimits command.limits }
+    requires extent { IsExtent command.extent }
+    ensures text { MatchResult result
+        (λ explanation. ExplainsText (Chain P.does P.changed passes.old.items passes.new.items) (explain_request command.entry) text.now explanation.items)
+        (λ fault. StopsAtText text.now fault) }
+    ensures named { map P.label passes.new.items ≡ map P.label passes.old.items }
+    ensures ran { OnOk result (EachRose (map P.runs passes.old.items) (map P.runs passes.new.items)) }
+{
+    match read_program(alloc, text) {
+        Ok(checked) => explanation_of_program(alloc, &checked, command, passes),
+        Err(Refusal::Source { fault }) => Err(ToolFault::Source {
+            who: Speaker::Pexplain,
+            fault,
+        }),
+        Err(Refusal::Memory) => Err(ToolFault::NoMemory {
+            who: Speaker::Pexplain,
+        }),
+    }
+}
+
+/// What explains a source's program.
+#[tactic(auto, using(crate::proofs::Sources::programs_due))]
+fn explanation_of_program<'a, P: Pass>(
+    alloc: Global,
+    checked: &Checked,
+    command: ExplainCommand<'a>,
+    passes: &mut Vec<P>,
+) -> Result<Vec<u8>, ToolFault<'a>>
+    requires limits { AreLimits command.limits }
+    requires extent { IsExtent command.extent }
+    ensures text { MatchResult result
+        (λ text. ExplainsProgram (Chain P.does P.changed passes.old.items passes.new.items) (explain_request command.entry) (resolved_of checked.now) text.items)
+        (λ fault. StopsAtProgram (resolved_size (resolved_of checked.now)) fault) }
+    ensures named { map P.label passes.new.items ≡ map P.label passes.old.items }
+    ensures ran { OnOk result (EachRose (map P.runs passes.old.items) (map P.runs passes.new.items)) }
+{
+    match compile_and_explain(alloc, checked, command, passes) {
+        Ok(text) => Ok(text),
+        Err(CompileError::TooLarge { nodes }) => Err(ToolFault::Source {
+            who: Speaker::Pexplain,
+            fault: SourceFault::TooLarge { number: nodes },
+        }),
+        Err(CompileError::Memory) => Err(ToolFault::NoMemory {
+            who: Speaker::Pexplain,
+        }),
+    }
+}
+
+/// Compiles a program, and gives what explains it.
+#[tactic(auto, using(crate::proofs::Programs::compilations))]
+fn compile_and_explain<P: Pass>(
+    alloc: Global,
+    checked: &Checked,
+    command: ExplainCommand,
+    passes: &mut Vec<P>,
+) -> Result<Vec<u8>, CompileError>
+    requires limits { AreLimits command.limits }
+    requires extent { IsExtent command.extent }
+    ensures text { IfOk result (λ text. ExplainsProgram (Chain P.does P.changed passes.old.items passes.new.items)
+        (explain_request command.entry) (resolved_of checked.now) text.items) }
+    ensures uncompiled { IfErr result (λ error. IsUncompiled (resolved_size (resolved_of checked.now)) error) }
+    ensures named { map P.label passes.new.items ≡ map P.label passes.old.items }
+    ensures ran { OnOk result (EachRose (map P.runs passes.old.items) (map P.runs passes.new.items)) }
+{
+    let compiled = compile_with(alloc, checked, passes, command.limits, command.extent)?;
+    let text = explanation_of_compiled(alloc, checked, &compiled, command)?;
+    Ok(text)
+}
+
+/// What explains a program that was compiled.
+fn explanation_of_compiled(
+    alloc: Global,
+    checked: &Checked,
+    compiled: &Compiled,
+    command: ExplainCommand,
+) -> Result<Vec<u8>, OutOfMemory>
+    requires limits { AreLimits command.limits }
+    requires extent { IsExtent command.extent }
+    requires chosen { HasChosen (table_of compiled.now.table) command.limits command.extent compiled.now.choices }
+    ensures { IfOk result (λ text. ExplainsLoops (explain_request command.entry)
+        (table_of compiled.now.table) compiled.now.choices (lines_of (resolved_of checked.now)) text.items) }
+{
+    let ExplainCommand {
+        limits,
+        extent,
+        line,
+        ..
+    } = command;
+    let choices = compiled.choices.as_slice();
+    let loops = explain_loops(alloc, &compiled.table, choices, limits, extent, line)?;
+    let lines = lines(alloc, checked)?;
+    Ok(explanation_text(alloc, limits, &lines, line, loops.as_slice())?)
+}
