@@ -9,7 +9,7 @@
 # make try SRC=my.c IN=numbers      compiles a program of your own, and runs it on the numbers of a file
 # make unproved     makes the programs in build/unproved/, in some minutes
 
-PROGRAMS = pcc pvm pview pstat pasm pcheck
+PROGRAMS = pcc pvm pview pstat pasm pcheck pexplain
 PREFIX = /usr/local
 INSTALL = install
 
@@ -20,6 +20,7 @@ pview_words = data/seven.tv
 pstat_words = data/sum.tv
 pasm_words = data/seven.rows -o /dev/null
 pcheck_words = data/dot.c data/dot.tv data/dot.cert
+pexplain_words = data/dot.c
 
 all: $(PROGRAMS:%=build/%)
 
