@@ -14,9 +14,9 @@ loop-at-preserved c =
     let at = c.loop-at.at in
     let old = string_bytes c.loop-at.text in
     let here = lines_text (state_lines c.args.limits c.args.setting.lines.now c.args.setting.region at (state_in c.state-state.result.now) (telling_in c.row-item.result)) in
-    let next = at + 1 in
-    let states = states_in (drop next c.args.told.now.automaton) in
-    let later = lines_text (states_lines c.args.limits c.args.setting.lines.now c.args.setting.region next states (tellings_in (drop next c.args.told.now.rows))) in
+    let states = states_in (drop (at + 1) c.args.told.now.automaton) in
+    let tellings = tellings_in (drop (at + 1) c.args.told.now.rows) in
+    let later = lines_text (states_lines c.args.limits c.args.setting.lines.now c.args.setting.region (at + 1) states tellings) in
     ap (λ (text : List ℕ). text ++ later) c.in_ok-push_state.ensures
     ∙ append_assoc old here later
     ∙ ap (λ (text : List ℕ). old ++ text)
