@@ -1,4 +1,1 @@
-pub mod ConflictsKept
-pub mod GuardedStoreKept
-pub mod DeadStepKept
-pub mod EqualSumsKept
+pub mod Small

@@ -1,4 +1,0 @@
-pub mod Conflicts
-pub mod GuardedStore
-pub mod DeadStep
-pub mod EqualSums

@@ -4,17 +4,18 @@ ghost use Rattle.pc_word.specs.Ranges.{AreLimits};
 ghost use Rattle.pc_window.specs.Steps.{IsProper};
 ghost use Rattle.pc_window.specs.StoredWindow.{window_in, InNodes, IsJustOpened};
 
-use crate::fill::{list_origins, opened_conflicts};
-use crate::unify::{equal_sums, opened_sums};
+use crate::fill::list_origins;
+use crate::tables::{CONFLICTS, EQUAL_SUMS, NARROW, ONE_SUM};
 use pc_fill::bring;
 use pc_window::{Window, WindowError};
+use pc_window_specimen::{ToldTable, Untold, first_window};
 use pc_word::Limits;
 use std::alloc::Global;
 use std::test::Fail;
 
 /// The origins of what stands in the front, once what stands at a place was brought there, alone or
 /// with the twin at a place of the no side.
-#[tactic(auto, using(crate::proofs::GuardedStoreKept::opened_windows, pc_window::proofs::WindowsStored::in_nodes_behind))]
+#[tactic(auto, using(crate::proofs::Small::opened_windows, pc_window::proofs::WindowsStored::in_nodes_behind))]
 fn brought(
     alloc: Global,
     window: Window,
@@ -33,43 +34,42 @@ fn brought(
     Ok(Some(listed))
 }
 
-/// The same of the window of the conflicts, whose front may have so many items.
-fn brought_over_conflicts(
+/// The same of the first window of a table.
+fn brought_of(
     alloc: Global,
-    ops: u8,
-    place: u32,
-) -> Result<Option<Vec<u32>>, WindowError>
-    requires { AreLimits (record { ops = ops; tests = 1; mem = 8 }) }
-{
-    let limits = Limits {
-        ops,
-        tests: 1,
-        mem: 8,
-    };
-    let window = opened_conflicts(alloc, limits)?;
-    brought(alloc, window, place, None)
-}
-
-/// The same of the window of the equal sums, where the sum on the no side is this node.
-fn brought_above_sums(
-    alloc: Global,
-    other: u32,
+    told: &ToldTable,
+    limits: Limits,
     place: u32,
     twin: Option<u32>,
-) -> Result<Option<Vec<u32>>, WindowError> {
-    let table = equal_sums(alloc, other)?;
-    let window = opened_sums(alloc, &table)?;
-    brought(alloc, window, place, twin)
+) -> Result<Option<Vec<u32>>, Untold>
+    requires { AreLimits limits }
+{
+    let window = first_window(alloc, told, limits)?;
+    Ok(brought(alloc, window, place, twin)?)
 }
 
 /// Whether these stand in the front then, or nothing was brought.
-fn are(listed: Result<Option<Vec<u32>>, WindowError>, origins: Option<&[u32]>) -> bool {
+fn are(listed: Result<Option<Vec<u32>>, Untold>, origins: Option<&[u32]>) -> bool {
     match (listed, origins) {
         (Ok(Some(listed)), Some(origins)) => listed.as_slice() == origins,
         (Ok(None), None) => true,
         _ => false,
     }
 }
+
+/// Limits with room for several items.
+const WIDE: Limits = Limits {
+    ops: 8,
+    tests: 1,
+    mem: 8,
+};
+
+/// Limits with room for one item.
+const ONE_ITEM: Limits = Limits {
+    ops: 1,
+    tests: 1,
+    mem: 8,
+};
 
 /// Places of the window of the conflicts, whose front is the store 0, and what stands in the front
 /// once they are brought.
@@ -94,35 +94,35 @@ const BROUGHT: [(u32, Option<&[u32]>); 9] = [
 #[test]
 fn what_is_ready_is_brought(rt: HostRuntime) -> Result<(), Fail> {
     for (place, origins) in BROUGHT {
-        let listed = brought_over_conflicts(rt.alloc(), 8, place);
+        let listed = brought_of(rt.alloc(), &CONFLICTS, WIDE, place, None);
         assert!(rt; are(listed, origins), "{place}");
     }
     // Where items have no room a test comes all the same.
-    let listed = brought_over_conflicts(rt.alloc(), 1, 1);
+    let listed = brought_of(rt.alloc(), &CONFLICTS, ONE_ITEM, 1, None);
     assert!(rt; are(listed, None));
-    let listed = brought_over_conflicts(rt.alloc(), 1, 5);
+    let listed = brought_of(rt.alloc(), &CONFLICTS, ONE_ITEM, 5, None);
     assert!(rt; are(listed, Some(&[0, 5])));
     Ok(())
 }
 
-/// The node of the sum on the no side, a place, the place of its twin on the no side, and what stands
-/// in the front, which is the test 0, once it is brought.
-const TWINS: [(u32, u32, Option<u32>, Option<&[u32]>); 5] = [
+/// A table, a place, the place of its twin on the no side, and what stands in the front, which is the
+/// test 0, once it is brought.
+const TWINS: [(ToldTable, u32, Option<u32>, Option<&[u32]>); 5] = [
     // The sum comes alone to its side, or as one with its twin above the test.
-    (1, 1, None, Some(&[0, 1])),
-    (1, 1, Some(0), Some(&[1, 0])),
+    (ONE_SUM, 1, None, Some(&[0, 1])),
+    (ONE_SUM, 1, Some(0), Some(&[1, 0])),
     // The print is no twin of the sum, nor is the sum of another node.
-    (1, 1, Some(1), None),
-    (3, 1, Some(0), None),
+    (ONE_SUM, 1, Some(1), None),
+    (EQUAL_SUMS, 1, Some(0), None),
     // The print reads what the sum gives.
-    (1, 2, None, None),
+    (ONE_SUM, 2, None, None),
 ];
 
 #[test]
 fn twins_are_brought_as_one(rt: HostRuntime) -> Result<(), Fail> {
-    for (other, place, twin, origins) in TWINS {
-        let listed = brought_above_sums(rt.alloc(), other, place, twin);
-        assert!(rt; are(listed, origins), "{other} {place} {twin:?}");
+    for (told, place, twin, origins) in TWINS {
+        let listed = brought_of(rt.alloc(), &told, NARROW, place, twin);
+        assert!(rt; are(listed, origins), "{place} {twin:?}");
     }
     Ok(())
 }

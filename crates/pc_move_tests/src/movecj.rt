@@ -2,10 +2,11 @@
 ghost use Rattle.pc_window.specs.Steps.{IsProper};
 ghost use Rattle.pc_window.specs.StoredWindow.{window_in, IsJustOpened};
 
-use crate::tables::opened;
+use crate::tables::{GUARDED_STORE, LIMITS};
 use pc_movecj::{move_cj, why_not};
 use pc_moveop::MoveError;
 use pc_window::{Window, WindowTree};
+use pc_window_specimen::first_window;
 use std::alloc::Global;
 use std::test::Fail;
 
@@ -27,7 +28,7 @@ fn is_test(tree: &WindowTree) -> bool {
 
 /// Why the test may not come into the front, and then whether it does; and why nothing comes into
 /// the node of the test, behind whose first leaf is no test.
-#[tactic(auto, using(crate::proofs::GuardedStoreKept::opened_windows))]
+#[tactic(auto, using(crate::proofs::Small::opened_windows))]
 fn moved(alloc: Global, window: Window) -> (Option<MoveError>, bool, Option<MoveError>)
     requires proper { IsProper (window_in window) }
     requires small { IsJustOpened window }
@@ -45,7 +46,7 @@ fn moved(alloc: Global, window: Window) -> (Option<MoveError>, bool, Option<Move
 
 #[test]
 fn a_test_moves_into_the_front(rt: HostRuntime) -> Result<(), Fail> {
-    let (first, moves, second) = match opened(rt.alloc()) {
+    let (first, moves, second) = match first_window(rt.alloc(), &GUARDED_STORE, LIMITS) {
         Ok(window) => moved(rt.alloc(), window),
         Err(_) => (None, false, None),
     };

@@ -4,16 +4,17 @@ ghost use Rattle.pc_window.specs.Tree.{tree_size};
 ghost use Rattle.pc_window.specs.Steps.{IsProper};
 ghost use Rattle.pc_window.specs.StoredWindow.{tree_in, window_in, IsJustOpened};
 
-use crate::tables::opened;
+use crate::tables::{GUARDED_STORE, LIMITS};
 use crate::trees::{above, leaf, test};
 use pc_moveop::{MoveError, RoomKind, move_op, why_not};
-use pc_window::{FormList, NameTable, Window, WindowTree};
+use pc_window::{Window, WindowTree};
+use pc_window_specimen::{bare, bin, first_window, load, print, store};
 use pc_word::{Item, Limits, OpCode, Operand};
 use std::alloc::{AllocError, Global};
 use std::test::Fail;
 
 /// Why the store may not come into the front, once it has come into the node of its test.
-#[tactic(auto, using(crate::proofs::GuardedStoreKept::opened_windows))]
+#[tactic(auto, using(crate::proofs::Small::opened_windows))]
 fn store_at_its_test(alloc: Global, window: Window) -> Option<MoveError>
     requires proper { IsProper (window_in window) }
     requires small { IsJustOpened window }
@@ -28,7 +29,7 @@ fn store_at_its_test(alloc: Global, window: Window) -> Option<MoveError>
 
 #[test]
 fn a_store_stays_below_its_test(rt: HostRuntime) -> Result<(), Fail> {
-    let why = match opened(rt.alloc()) {
+    let why = match first_window(rt.alloc(), &GUARDED_STORE, LIMITS) {
         Ok(window) => store_at_its_test(rt.alloc(), window),
         Err(_) => None,
     };
@@ -41,19 +42,12 @@ fn a_store_stays_below_its_test(rt: HostRuntime) -> Result<(), Fail> {
 fn first_refusal(alloc: Global, tree: WindowTree) -> Option<MoveError>
     requires { tree_size (tree_in tree) < 2 ^ 31 }
 {
-    let window = Window {
-        tree,
-        names: NameTable {
-            forms: FormList::new(alloc),
-            next_variable: 0,
-        },
-        limits: Limits {
-            ops: 2,
-            tests: 1,
-            mem: 2,
-        },
-        inside: None,
+    let limits = Limits {
+        ops: 2,
+        tests: 1,
+        mem: 2,
     };
+    let window = bare(alloc, tree, limits);
     why_not(&window, &[], 0, 0)
 }
 
@@ -77,35 +71,18 @@ fn two_sides(alloc: Global, item: Item) -> Result<Option<MoveError>, AllocError>
 
 #[test]
 fn moves_are_refused(rt: HostRuntime) -> Result<(), Fail> {
-    let store = Item::Store {
-        array: 0,
-        index: Operand::Lit(3),
-        value: Operand::Lit(1),
-    };
-    let load = Item::Load {
-        dest: 0,
-        array: 0,
-        index: Operand::Lit(3),
-    };
-    let other = Item::Load {
-        dest: 0,
-        array: 0,
-        index: Operand::Lit(4),
-    };
-    let print = Item::Print {
-        value: Operand::Name(0),
-    };
-    let sum = Item::Bin {
-        op: OpCode::Add,
-        dest: 1,
-        left: Operand::Lit(1),
-        right: Operand::Lit(2),
-    };
-    assert!(&rt; two_items(rt.alloc(), store, load)? == Some(MoveError::MemoryOrder { origin: 5 }));
-    assert!(&rt; two_items(rt.alloc(), store, other)? == None);
-    assert!(&rt; two_items(rt.alloc(), load, store)? == None);
-    assert!(&rt; two_items(rt.alloc(), load, print)? == Some(MoveError::Depends { name: 0 }));
-    assert!(&rt; two_items(rt.alloc(), print, print)? == Some(MoveError::EffectOrder));
+    let stored = store(Operand::Lit(3), Operand::Lit(1));
+    let loaded = load(0, Operand::Lit(3));
+    let other = load(0, Operand::Lit(4));
+    let shown = print(Operand::Name(0));
+    let sum = bin(OpCode::Add, 1, Operand::Lit(1), Operand::Lit(2));
+    assert!(&rt;
+        two_items(rt.alloc(), stored, loaded)? == Some(MoveError::MemoryOrder { origin: 5 })
+    );
+    assert!(&rt; two_items(rt.alloc(), stored, other)? == None);
+    assert!(&rt; two_items(rt.alloc(), loaded, stored)? == None);
+    assert!(&rt; two_items(rt.alloc(), loaded, shown)? == Some(MoveError::Depends { name: 0 }));
+    assert!(&rt; two_items(rt.alloc(), shown, shown)? == Some(MoveError::EffectOrder));
     assert!(&rt;
         two_sides(rt.alloc(), sum)?
             == Some(MoveError::Full {

@@ -1,93 +1,111 @@
-//! Tables of regions that several tests use, and a window of one of them.
-ghost use Rattle.std.specs.Prelude.{◌≡◌, IfOk};
-ghost use Rattle.pc_table.specs.Table.{table_tree, Does, Asks};
-ghost use Rattle.pc_table.specs.StoredTable.{table_of};
-ghost use Rattle.pc_window.specs.Steps.{IsProper};
-ghost use Rattle.pc_window.specs.StoredWindow.{window_in, IsJustOpened};
-ghost use Rattle.pc_move_tests.specs.GuardedStore.{guarded_store_table};
+//! Tables of one region, told, and how much fits into the rows of their windows.
 
-use pc_table::{Region, RegionList, RegionTable, RegionTree, VarList};
-use pc_window::{Window, WindowError};
-use pc_word::{Item, LengthList, Limits, LoopList, Operand};
-use std::alloc::{AllocError, Global};
+use pc_window_specimen::{PLAIN, Part, ToldRegion, ToldTable};
+use pc_word::Operand::{Lit, Name};
+use pc_word::{Limits, OpCode};
 
-/// An item above a tree.
-pub(crate) fn does(
-    alloc: Global,
-    origin: u32,
-    item: Item,
-    below: RegionTree,
-) -> Result<RegionTree, AllocError>
-    ensures { IfOk result (λ tree. table_tree tree ≡ Does origin item (table_tree below)) }
-{
-    let next = Box::new(alloc, below)?;
-    Ok(RegionTree::Step { origin, item, next })
-}
+/// Four items, of which one may be a load or store, and a test.
+pub(crate) const LIMITS: Limits = Limits {
+    ops: 4,
+    tests: 1,
+    mem: 1,
+};
 
-/// A test above two trees.
-pub(crate) fn asks(
-    alloc: Global,
-    origin: u32,
-    on: Operand,
-    yes: RegionTree,
-    no: RegionTree,
-) -> Result<RegionTree, AllocError>
-    ensures { IfOk result (λ tree. table_tree tree ≡ Asks origin on (table_tree yes) (table_tree no)) }
-{
-    let yes = Box::new(alloc, yes)?;
-    let no = Box::new(alloc, no)?;
-    Ok(RegionTree::Test {
-        origin,
-        on,
-        yes,
-        no,
-    })
-}
+/// One item and a test.
+pub(crate) const NARROW: Limits = Limits {
+    ops: 1,
+    tests: 1,
+    mem: 1,
+};
 
-/// `print(1); if (1) a[0] = 2;`, as one region.
-#[tactic(auto, using(crate::proofs::GuardedStoreKept::guarded_store))]
-fn guarded_store(alloc: Global) -> Result<RegionTable, AllocError>
-    ensures { IfOk result (λ table. table_of table ≡ guarded_store_table) }
-{
-    let store = Item::Store {
-        array: 0,
-        index: Operand::Lit(0),
-        value: Operand::Lit(2),
-    };
-    let print = Item::Print {
-        value: Operand::Lit(1),
-    };
-    let tree = does(alloc, 2, store, RegionTree::Stop)?;
-    let tree = asks(alloc, 1, Operand::Lit(1), tree, RegionTree::Stop)?;
-    let tree = does(alloc, 0, print, tree)?;
-    let mut regions = RegionList::new(alloc);
-    regions.push(Region {
-        head: 0,
-        tree,
-        live: VarList::new(alloc),
-        inside: None,
-        heads: None,
-    })?;
-    let mut arrays = LengthList::new(alloc);
-    arrays.push(4)?;
-    Ok(RegionTable {
-        regions,
-        loops: LoopList::new(alloc),
-        arrays,
-    })
-}
+/// `print(1); if (1) a[0] = 2;`.
+pub(crate) const GUARDED_STORE: ToldTable = ToldTable {
+    regions: &[ToldRegion {
+        parts: &[
+            Part::Print(0, Lit(1)),
+            Part::Asks(1, Lit(1)),
+            Part::Store(2, Lit(0), Lit(2)),
+            Part::Stop,
+            Part::Stop,
+        ],
+        ..PLAIN
+    }],
+    headers: &[],
+    lengths: &[4],
+};
 
-/// The window of that region.
-#[tactic(auto, using(pc_table::proofs::StoredRegions::some_region))]
-pub(crate) fn opened(alloc: Global) -> Result<Window, WindowError>
-    ensures proper { IfOk result (λ window. IsProper (window_in window)) }
-    ensures small { IfOk result (λ window. IsJustOpened window) }
-{
-    let table = guarded_store(alloc)?;
-    let limits = Limits {
-        ops: 4,
-        tests: 1,
-        mem: 1,
-    };
-    Window::of_region(alloc, &table, 0, limits)
-}
+/// `a[0] = 5; a[1]; a[0]; print(7); print(8); if (1) if (2) { x = 3 + 1; a[2] = 6; }`.
+pub(crate) const CONFLICTS: ToldTable = ToldTable {
+    regions: &[ToldRegion {
+        parts: &[
+            Part::Store(0, Lit(0), Lit(5)),
+            Part::Load(1, 1, Lit(1)),
+            Part::Load(2, 2, Lit(0)),
+            Part::Print(3, Lit(7)),
+            Part::Print(4, Lit(8)),
+            Part::Asks(5, Lit(1)),
+            Part::Asks(6, Lit(2)),
+            Part::Bin(7, OpCode::Add, 3, Lit(3), Lit(1)),
+            Part::Store(8, Lit(2), Lit(6)),
+            Part::Stop,
+            Part::Stop,
+            Part::Stop,
+        ],
+        ..PLAIN
+    }],
+    headers: &[],
+    lengths: &[4],
+};
+
+/// `a = 1 + 2; print(7);`.
+pub(crate) const DEAD_STEP: ToldTable = ToldTable {
+    regions: &[ToldRegion {
+        parts: &[
+            Part::Bin(0, OpCode::Add, 1, Lit(1), Lit(2)),
+            Part::Print(1, Lit(7)),
+            Part::Stop,
+        ],
+        ..PLAIN
+    }],
+    headers: &[],
+    lengths: &[],
+};
+
+/// `if (x) { a = y + 1; print(a); } else { a = y + 1; print(a); }`, where x, a and y are the variables 0
+/// to 2. The sum on the yes side is node 1, and that on the no side node 3.
+pub(crate) const EQUAL_SUMS: ToldTable = ToldTable {
+    regions: &[ToldRegion {
+        parts: &[
+            Part::Asks(0, Name(0)),
+            Part::Bin(1, OpCode::Add, 1, Name(2), Lit(1)),
+            Part::Print(2, Name(1)),
+            Part::Stop,
+            Part::Bin(3, OpCode::Add, 1, Name(2), Lit(1)),
+            Part::Print(4, Name(1)),
+            Part::Stop,
+        ],
+        live: &[0, 2],
+        ..PLAIN
+    }],
+    headers: &[],
+    lengths: &[],
+};
+
+/// The same, where both sums are node 1.
+pub(crate) const ONE_SUM: ToldTable = ToldTable {
+    regions: &[ToldRegion {
+        parts: &[
+            Part::Asks(0, Name(0)),
+            Part::Bin(1, OpCode::Add, 1, Name(2), Lit(1)),
+            Part::Print(2, Name(1)),
+            Part::Stop,
+            Part::Bin(1, OpCode::Add, 1, Name(2), Lit(1)),
+            Part::Print(4, Name(1)),
+            Part::Stop,
+        ],
+        live: &[0, 2],
+        ..PLAIN
+    }],
+    headers: &[],
+    lengths: &[],
+};

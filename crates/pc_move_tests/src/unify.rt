@@ -1,76 +1,27 @@
 //! What is not used is deleted, and equal items become one.
-ghost use Rattle.std.specs.Prelude.{◌≡◌, ◌<◌, ◌^◌, true, IfOk};
-ghost use Rattle.pc_table.specs.Table.{table_tree};
-ghost use Rattle.pc_table.specs.StoredTable.{table_of};
+ghost use Rattle.std.specs.Prelude.{◌<◌, ◌^◌};
 ghost use Rattle.pc_window.specs.Tree.{tree_size};
 ghost use Rattle.pc_window.specs.Steps.{IsProper};
-ghost use Rattle.pc_window.specs.StoredWindow.{tree_in, window_in, InNodes, IsJustOpened};
-ghost use Rattle.pc_move_tests.specs.DeadStep.{dead_step_table};
-ghost use Rattle.pc_move_tests.specs.EqualSums.{sum_tree, equal_sums_table};
+ghost use Rattle.pc_window.specs.StoredWindow.{tree_in, window_in, IsJustOpened};
 
-use crate::tables::does;
+use crate::tables::{DEAD_STEP, EQUAL_SUMS, LIMITS, NARROW};
 use crate::trees::{above, leaf, test};
 use pc_moveop::MoveError;
-use pc_table::{Region, RegionList, RegionTable, RegionTree, VarList};
 use pc_unify::{delete, tidy, unify, why_not_delete, why_not_unify};
-use pc_window::{FormList, NameTable, Window, WindowError, WindowTree};
-use pc_word::{Item, LengthList, Limits, LoopList, OpCode, Operand};
+use pc_window::{Window, WindowTree};
+use pc_window_specimen::{Untold, bare, first_window, load, print, store};
+use pc_word::{Item, Operand};
 use std::alloc::{AllocError, Global};
 use std::test::Fail;
 
-/// `a = 1 + 2; print(7);`, as one region.
-#[tactic(auto, using(crate::proofs::DeadStepKept::dead_step))]
-fn dead_step(alloc: Global) -> Result<RegionTable, AllocError>
-    ensures { IfOk result (λ table. table_of table ≡ dead_step_table) }
-{
-    let print = Item::Print {
-        value: Operand::Lit(7),
-    };
-    let sum = Item::Bin {
-        op: OpCode::Add,
-        dest: 1,
-        left: Operand::Lit(1),
-        right: Operand::Lit(2),
-    };
-    let tree = does(alloc, 1, print, RegionTree::Stop)?;
-    let tree = does(alloc, 0, sum, tree)?;
-    let mut regions = RegionList::new(alloc);
-    regions.push(Region {
-        head: 0,
-        tree,
-        live: VarList::new(alloc),
-        inside: None,
-        heads: None,
-    })?;
-    Ok(RegionTable {
-        regions,
-        loops: LoopList::new(alloc),
-        arrays: LengthList::new(alloc),
-    })
-}
-
-/// Its window.
-#[tactic(auto, using(pc_table::proofs::StoredRegions::some_region))]
-fn opened_step(alloc: Global, table: &RegionTable) -> Result<Window, WindowError>
-    ensures proper { IfOk result (λ window. IsProper (window_in window)) }
-    ensures small { IfOk result (λ window. IsJustOpened window) }
-{
-    let limits = Limits {
-        ops: 4,
-        tests: 1,
-        mem: 1,
-    };
-    Window::of_region(alloc, table, 0, limits)
-}
-
-/// Its window, tidied.
-fn tidied(alloc: Global, table: &RegionTable) -> Result<Window, WindowError> {
-    let window = opened_step(alloc, table)?;
-    tidy(alloc, window)
+/// The window of the sum that nothing uses, tidied.
+fn tidied(alloc: Global) -> Result<Window, Untold> {
+    let window = first_window(alloc, &DEAD_STEP, LIMITS)?;
+    Ok(tidy(alloc, window)?)
 }
 
 /// Whether the sum alone is deleted, and the print, which is not, comes to the front.
-#[tactic(auto, using(crate::proofs::GuardedStoreKept::opened_windows))]
+#[tactic(auto, using(crate::proofs::Small::opened_windows))]
 fn deletes_the_sum(alloc: Global, window: Window) -> bool
     requires proper { IsProper (window_in window) }
     requires small { IsJustOpened window }
@@ -89,20 +40,14 @@ fn deletes_the_sum(alloc: Global, window: Window) -> bool
 /// Whether a tree begins with the print.
 fn begins_with_print(tree: &WindowTree) -> bool {
     match tree {
-        WindowTree::Step { item, .. } => {
-            *item
-                == Item::Print {
-                    value: Operand::Lit(7),
-                }
-        }
+        WindowTree::Step { item, .. } => *item == print(Operand::Lit(7)),
         _ => false,
     }
 }
 
 #[test]
 fn what_is_not_used_is_deleted(rt: HostRuntime) -> Result<(), Fail> {
-    let table = dead_step(rt.alloc())?;
-    let is_so = match tidied(rt.alloc(), &table) {
+    let is_so = match tidied(rt.alloc()) {
         Ok(window) => begins_with_print(&window.tree),
         Err(_) => false,
     };
@@ -112,8 +57,7 @@ fn what_is_not_used_is_deleted(rt: HostRuntime) -> Result<(), Fail> {
 
 #[test]
 fn one_item_is_deleted(rt: HostRuntime) -> Result<(), Fail> {
-    let table = dead_step(rt.alloc())?;
-    let is_so = match opened_step(rt.alloc(), &table) {
+    let is_so = match first_window(rt.alloc(), &DEAD_STEP, LIMITS) {
         Ok(window) => deletes_the_sum(rt.alloc(), window),
         Err(_) => false,
     };
@@ -121,80 +65,11 @@ fn one_item_is_deleted(rt: HostRuntime) -> Result<(), Fail> {
     Ok(())
 }
 
-/// `a = y + 1; print(a);`, where y is variable 2 and a is variable 1.
-fn sum_and_print(alloc: Global, sum_node: u32, print_node: u32) -> Result<RegionTree, AllocError>
-    ensures { IfOk result (λ tree. table_tree tree ≡ sum_tree sum_node print_node) }
-{
-    let print = Item::Print {
-        value: Operand::Name(1),
-    };
-    let sum = Item::Bin {
-        op: OpCode::Add,
-        dest: 1,
-        left: Operand::Name(2),
-        right: Operand::Lit(1),
-    };
-    let tree = does(alloc, print_node, print, RegionTree::Stop)?;
-    does(alloc, sum_node, sum, tree)
-}
-
-/// `if (x) { a = y + 1; print(a); } else { a = y + 1; print(a); }`, as one region, where x is
-/// variable 0. The sum on the yes side is node 1, and that on the no side this node.
-#[tactic(auto, using(crate::proofs::EqualSumsKept::equal_sums))]
-pub(crate) fn equal_sums(alloc: Global, other: u32) -> Result<RegionTable, AllocError>
-    ensures { IfOk result (λ table. table_of table ≡ equal_sums_table other) }
-{
-    let yes = sum_and_print(alloc, 1, 2)?;
-    let yes = Box::new(alloc, yes)?;
-    let no = sum_and_print(alloc, other, 4)?;
-    let no = Box::new(alloc, no)?;
-    let mut live = VarList::new(alloc);
-    live.push(0)?;
-    live.push(2)?;
-    let mut regions = RegionList::new(alloc);
-    regions.push(Region {
-        head: 0,
-        tree: RegionTree::Test {
-            origin: 0,
-            on: Operand::Name(0),
-            yes,
-            no,
-        },
-        live,
-        inside: None,
-        heads: None,
-    })?;
-    Ok(RegionTable {
-        regions,
-        loops: LoopList::new(alloc),
-        arrays: LengthList::new(alloc),
-    })
-}
-
-/// Its window.
-#[tactic(auto, using(pc_table::proofs::StoredRegions::some_region))]
-pub(crate) fn opened_sums(alloc: Global, table: &RegionTable) -> Result<Window, WindowError>
-    ensures proper { IfOk result (λ window. IsProper (window_in window)) }
-    ensures small { IfOk result (λ window. IsJustOpened window) }
-    ensures nodes { IfOk result (λ window. InNodes true window.tree) }
-{
-    let limits = Limits {
-        ops: 1,
-        tests: 1,
-        mem: 1,
-    };
-    Window::of_region(alloc, table, 0, limits)
-}
-
 /// Whether a tree is a leaf that leads to the print of a name.
 fn leads_to_print_of(tree: &WindowTree, name: u32) -> bool {
     match tree {
         WindowTree::Node { below } => match **below {
-            WindowTree::Step { item, .. } => {
-                item == Item::Print {
-                    value: Operand::Name(name),
-                }
-            }
+            WindowTree::Step { item, .. } => item == print(Operand::Name(name)),
             _ => false,
         },
         _ => false,
@@ -228,7 +103,7 @@ fn begins_with_one_sum(tree: &WindowTree) -> bool {
 }
 
 /// Whether the two sums become one above the test.
-#[tactic(auto, using(crate::proofs::GuardedStoreKept::opened_windows))]
+#[tactic(auto, using(crate::proofs::Small::opened_windows))]
 fn unifies_sums(alloc: Global, window: Window) -> bool
     requires proper { IsProper (window_in window) }
     requires small { IsJustOpened window }
@@ -245,8 +120,7 @@ fn unifies_sums(alloc: Global, window: Window) -> bool
 
 #[test]
 fn equal_items_become_one(rt: HostRuntime) -> Result<(), Fail> {
-    let table = equal_sums(rt.alloc(), 3)?;
-    let is_so = match opened_sums(rt.alloc(), &table) {
+    let is_so = match first_window(rt.alloc(), &EQUAL_SUMS, NARROW) {
         Ok(window) => unifies_sums(rt.alloc(), window),
         Err(_) => false,
     };
@@ -259,19 +133,7 @@ fn equal_items_become_one(rt: HostRuntime) -> Result<(), Fail> {
 fn refusal(alloc: Global, tree: WindowTree) -> Option<MoveError>
     requires { tree_size (tree_in tree) < 2 ^ 31 }
 {
-    let window = Window {
-        tree,
-        names: NameTable {
-            forms: FormList::new(alloc),
-            next_variable: 0,
-        },
-        limits: Limits {
-            ops: 1,
-            tests: 1,
-            mem: 1,
-        },
-        inside: None,
-    };
+    let window = bare(alloc, tree, NARROW);
     why_not_unify(&window, &[], 0, 1, 0)
 }
 
@@ -291,27 +153,16 @@ fn three_items(
     Ok(refusal(alloc, tree))
 }
 
-/// A load of an element.
-fn load(dest: u32, index: i32) -> Item {
-    Item::Load {
-        dest,
-        array: 0,
-        index: Operand::Lit(index),
-    }
-}
-
 #[test]
 fn unifications_are_refused(rt: HostRuntime) -> Result<(), Fail> {
-    let store = Item::Store {
-        array: 0,
-        index: Operand::Lit(3),
-        value: Operand::Lit(1),
-    };
-    let same = three_items(rt.alloc(), store, load(0, 3), load(1, 3))?;
+    let stored = store(Operand::Lit(3), Operand::Lit(1));
+    let third = Operand::Lit(3);
+    let fourth = Operand::Lit(4);
+    let same = three_items(rt.alloc(), stored, load(0, third), load(1, third))?;
     assert!(&rt; same == Some(MoveError::MemoryOrder { origin: 5 }));
-    let other = three_items(rt.alloc(), store, load(0, 4), load(1, 4))?;
+    let other = three_items(rt.alloc(), stored, load(0, fourth), load(1, fourth))?;
     assert!(&rt; other == None);
-    let unlike = three_items(rt.alloc(), store, load(0, 4), load(0, 3))?;
+    let unlike = three_items(rt.alloc(), stored, load(0, fourth), load(0, third))?;
     assert!(&rt; unlike == Some(MoveError::NotThere));
     Ok(())
 }
