@@ -1,4 +1,5 @@
-//! What tests of regions and windows are made of: tables of regions, told part by part, and their windows.
+//! What tests of graphs, regions and windows are made of: tables of regions, told part by part, their windows, and what
+//! sources are lowered to.
 #![tactic(auto)]
 
 mod checking;
@@ -6,13 +7,17 @@ mod handmade;
 mod items;
 mod naming;
 mod sizes;
+mod sources;
 mod tables;
 mod texts;
+mod untold;
 mod windows;
 
-pub use handmade::bare;
+pub use handmade::{bare, told_window};
 pub use items::{bin, load, print, store};
 pub use sizes::{may_be_filled, may_be_unwound, size};
-pub use tables::{PLAIN, Part, ToldRegion, ToldTable, Untold, table};
+pub use sources::{graph_of, regions_of};
+pub use tables::{PLAIN, Part, ToldRegion, ToldTable, table};
 pub use texts::{front_text, tree_text};
+pub use untold::Untold;
 pub use windows::{first_rest, first_window, opened, unwound};

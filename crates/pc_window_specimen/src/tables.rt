@@ -1,15 +1,12 @@
 //! Tables of regions, told part by part.
-ghost use Rattle.std.specs.Prelude.{◌≡◌};
-ghost use Rattle.pc_window_specimen.specs.declared.tables.Untold.TheVariants.{Memory};
-
 use crate::checking::{Draft, keeps};
 use crate::items::{bin, load, print, store};
+use crate::untold::Untold;
 use pc_table::{Region, RegionList, RegionTable, RegionTree, VarList};
-use pc_word::{Item, LengthList, LoopList, LoopMark, MOST_NODES, OpCode, Operand, OutOfMemory};
+use pc_word::{Item, LengthList, LoopList, LoopMark, MOST_NODES, OpCode, Operand};
 use std::alloc::{AllocError, Global};
-use thiserror::Error;
 
-/// A part of a region's tree, told in preorder: the yes side of a test stands before its no side. An item and a test begin
+/// A part of the tree of a region or of a window, told in preorder: the yes side of a test stands before its no side. An item and a test begin
 /// with the node of the flow graph that they come from; loads and stores are of array 0.
 #[derive(Clone, Copy)]
 pub enum Part {
@@ -21,8 +18,10 @@ pub enum Part {
     Read(u32, u32),
     /// A test of an operand.
     Asks(u32, Operand),
-    /// The region that comes next, by its number.
+    /// In a region alone: the region that comes next, by its number.
     Next(u32),
+    /// In a window alone: a leaf of a node, which leads to the one that follows.
+    Node,
     /// The end of the program.
     Stop,
 }
@@ -59,33 +58,6 @@ pub const PLAIN: ToldRegion = ToldRegion {
     inside: None,
     heads: None,
 };
-
-/// Why nothing was made of what was told.
-#[derive(Clone, Copy, Debug, PartialEq, Eq, Error)]
-pub enum Untold {
-    /// It is no tree, or no table.
-    #[error("what is told is no table")]
-    NoTable,
-    /// Memory ran out.
-    #[error("out of memory")]
-    Memory,
-}
-
-impl From<OutOfMemory> for Untold {
-    ghost from_gives = { λ _ e. e ≡ Memory };
-
-    fn from(_error: OutOfMemory) -> Untold {
-        Untold::Memory
-    }
-}
-
-impl From<AllocError> for Untold {
-    ghost from_gives = { λ _ e. e ≡ Memory };
-
-    fn from(_error: AllocError) -> Untold {
-        Untold::Memory
-    }
-}
 
 /// Puts a leaf there.
 fn put_leaf(leaf: RegionTree, trees: &mut Vec<RegionTree>) -> Result<bool, AllocError> {
@@ -129,20 +101,29 @@ fn put_test(
     Ok(true)
 }
 
+/// The node and the item of a part that is an item.
+pub(crate) fn item_of(part: Part) -> Option<(u32, Item)> {
+    match part {
+        Part::Bin(origin, op, dest, left, right) => Some((origin, bin(op, dest, left, right))),
+        Part::Copy(origin, dest, from) => Some((origin, Item::Copy { dest, from })),
+        Part::Load(origin, dest, index) => Some((origin, load(dest, index))),
+        Part::Store(origin, index, value) => Some((origin, store(index, value))),
+        Part::Print(origin, value) => Some((origin, print(value))),
+        Part::Read(origin, dest) => Some((origin, Item::Read { dest })),
+        _ => None,
+    }
+}
+
 /// Puts a part above the trees of those that come after it. Whether it can stand there.
 fn put(alloc: Global, part: Part, trees: &mut Vec<RegionTree>) -> Result<bool, AllocError> {
+    if let Some((origin, item)) = item_of(part) {
+        return put_item(alloc, origin, item, trees);
+    }
     match part {
-        Part::Bin(origin, op, dest, left, right) => {
-            put_item(alloc, origin, bin(op, dest, left, right), trees)
-        }
-        Part::Copy(origin, dest, from) => put_item(alloc, origin, Item::Copy { dest, from }, trees),
-        Part::Load(origin, dest, index) => put_item(alloc, origin, load(dest, index), trees),
-        Part::Store(origin, index, value) => put_item(alloc, origin, store(index, value), trees),
-        Part::Print(origin, value) => put_item(alloc, origin, print(value), trees),
-        Part::Read(origin, dest) => put_item(alloc, origin, Item::Read { dest }, trees),
         Part::Asks(origin, on) => put_test(alloc, origin, on, trees),
         Part::Next(region) => put_leaf(RegionTree::Next { region }, trees),
         Part::Stop => put_leaf(RegionTree::Stop, trees),
+        _ => Ok(false),
     }
 }
 

@@ -8,7 +8,8 @@ ghost use Rattle.pc_window.specs.StoredWindow.{window_in, InNodes, IsJustOpened}
 ghost use Rattle.pc_unwind.specs.Unwindable.{CanUnwind};
 ghost use Rattle.pc_automaton.specs.StoredLeft.{left_in, LeftInNodes};
 
-use crate::tables::{ToldTable, Untold, table};
+use crate::tables::{ToldTable, table};
+use crate::untold::Untold;
 use pc_automaton::Left;
 use pc_table::RegionTable;
 use pc_unwind::unwind;
