@@ -1,11 +1,10 @@
 //! What is brought into the front of a window by its place.
 ghost use Rattle.std.specs.Prelude.{true};
-ghost use Rattle.pc_word.specs.Ranges.{AreLimits};
 ghost use Rattle.pc_window.specs.Steps.{IsProper};
 ghost use Rattle.pc_window.specs.StoredWindow.{window_in, InNodes, IsJustOpened};
 
 use crate::fill::list_origins;
-use crate::tables::{CONFLICTS, EQUAL_SUMS, NARROW, ONE_SUM};
+use crate::tables::{CONFLICTS, EQUAL_SUMS, ONE_SUM};
 use pc_fill::bring;
 use pc_window::{Window, WindowError};
 use pc_window_specimen::{ToldTable, Untold, first_window};
@@ -34,95 +33,145 @@ fn brought(
     Ok(Some(listed))
 }
 
-/// The same of the first window of a table.
-fn brought_of(
-    alloc: Global,
-    told: &ToldTable,
-    limits: Limits,
+/// A place of the first window of a table whose front has room for so many items, the place of its twin on the no side,
+/// and what stands in the front once it is brought.
+#[derive(Clone, Copy)]
+struct Case {
+    told: ToldTable,
+    ops: u8,
     place: u32,
     twin: Option<u32>,
-) -> Result<Option<Vec<u32>>, Untold>
-    requires { AreLimits limits }
-{
-    let window = first_window(alloc, told, limits)?;
-    Ok(brought(alloc, window, place, twin)?)
+    origins: Option<&'static [u32]>,
 }
 
-/// Whether these stand in the front then, or nothing was brought.
-fn are(listed: Result<Option<Vec<u32>>, Untold>, origins: Option<&[u32]>) -> bool {
-    match (listed, origins) {
-        (Ok(Some(listed)), Some(origins)) => listed.as_slice() == origins,
-        (Ok(None), None) => true,
-        _ => false,
-    }
-}
-
-/// Limits with room for several items.
-const WIDE: Limits = Limits {
+/// The first load of the conflicts.
+const LOAD: Case = Case {
+    told: CONFLICTS,
     ops: 8,
-    tests: 1,
-    mem: 8,
+    place: 1,
+    twin: None,
+    origins: Some(&[0, 1]),
 };
 
-/// Limits with room for one item.
-const ONE_ITEM: Limits = Limits {
+/// The sum on the yes side, where both sums are of one node.
+const SUM: Case = Case {
+    told: ONE_SUM,
     ops: 1,
-    tests: 1,
-    mem: 8,
+    place: 1,
+    twin: None,
+    origins: Some(&[0, 1]),
 };
 
-/// Places of the window of the conflicts, whose front is the store 0, and what stands in the front
-/// once they are brought.
-const BROUGHT: [(u32, Option<&[u32]>); 9] = [
+/// The front of the conflicts is the store 0, and that of the sums the test 0.
+const CASES: [Case; 16] = [
     // The load of another element, the first print and the first test come over what stands before.
-    (1, Some(&[0, 1])),
-    (3, Some(&[0, 3])),
-    (5, Some(&[0, 5])),
+    LOAD,
+    Case {
+        place: 3,
+        origins: Some(&[0, 3]),
+        ..LOAD
+    },
+    Case {
+        place: 5,
+        origins: Some(&[0, 5]),
+        ..LOAD
+    },
     // The sum comes over both tests.
-    (7, Some(&[0, 7])),
+    Case {
+        place: 7,
+        origins: Some(&[0, 7]),
+        ..LOAD
+    },
     // The store stands in the front already.
-    (0, None),
+    Case {
+        place: 0,
+        origins: None,
+        ..LOAD
+    },
     // The load of the element that is stored to, the second print, and the store below the tests are
     // not ready.
-    (2, None),
-    (4, None),
-    (8, None),
+    Case {
+        place: 2,
+        origins: None,
+        ..LOAD
+    },
+    Case {
+        place: 4,
+        origins: None,
+        ..LOAD
+    },
+    Case {
+        place: 8,
+        origins: None,
+        ..LOAD
+    },
     // Nothing stands there.
-    (9, None),
+    Case {
+        place: 9,
+        origins: None,
+        ..LOAD
+    },
+    // Where items have no room a test comes all the same.
+    Case {
+        ops: 1,
+        origins: None,
+        ..LOAD
+    },
+    Case {
+        ops: 1,
+        place: 5,
+        origins: Some(&[0, 5]),
+        ..LOAD
+    },
+    // The sum comes alone to its side, or as one with its twin above the test.
+    SUM,
+    Case {
+        twin: Some(0),
+        origins: Some(&[1, 0]),
+        ..SUM
+    },
+    // The print is no twin of the sum, nor is the sum of another node.
+    Case {
+        twin: Some(1),
+        origins: None,
+        ..SUM
+    },
+    Case {
+        told: EQUAL_SUMS,
+        twin: Some(0),
+        origins: None,
+        ..SUM
+    },
+    // The print reads what the sum gives.
+    Case {
+        place: 2,
+        origins: None,
+        ..SUM
+    },
 ];
+
+/// Whether these stand in the front then, or nothing was brought.
+fn is_brought(alloc: Global, case: &Case) -> Result<bool, Untold> {
+    if case.ops < 1 || case.ops > 8 {
+        return Ok(false);
+    }
+    let limits = Limits {
+        ops: case.ops,
+        tests: 1,
+        mem: 8,
+    };
+    let window = first_window(alloc, &case.told, limits)?;
+    match (brought(alloc, window, case.place, case.twin)?, case.origins) {
+        (Some(listed), Some(origins)) => Ok(listed.as_slice() == origins),
+        (None, None) => Ok(true),
+        _ => Ok(false),
+    }
+}
 
 #[test]
 fn what_is_ready_is_brought(rt: HostRuntime) -> Result<(), Fail> {
-    for (place, origins) in BROUGHT {
-        let listed = brought_of(rt.alloc(), &CONFLICTS, WIDE, place, None);
-        assert!(rt; are(listed, origins), "{place}");
-    }
-    // Where items have no room a test comes all the same.
-    let listed = brought_of(rt.alloc(), &CONFLICTS, ONE_ITEM, 1, None);
-    assert!(rt; are(listed, None));
-    let listed = brought_of(rt.alloc(), &CONFLICTS, ONE_ITEM, 5, None);
-    assert!(rt; are(listed, Some(&[0, 5])));
-    Ok(())
-}
-
-/// A table, a place, the place of its twin on the no side, and what stands in the front, which is the
-/// test 0, once it is brought.
-const TWINS: [(ToldTable, u32, Option<u32>, Option<&[u32]>); 5] = [
-    // The sum comes alone to its side, or as one with its twin above the test.
-    (ONE_SUM, 1, None, Some(&[0, 1])),
-    (ONE_SUM, 1, Some(0), Some(&[1, 0])),
-    // The print is no twin of the sum, nor is the sum of another node.
-    (ONE_SUM, 1, Some(1), None),
-    (EQUAL_SUMS, 1, Some(0), None),
-    // The print reads what the sum gives.
-    (ONE_SUM, 2, None, None),
-];
-
-#[test]
-fn twins_are_brought_as_one(rt: HostRuntime) -> Result<(), Fail> {
-    for (told, place, twin, origins) in TWINS {
-        let listed = brought_of(rt.alloc(), &told, NARROW, place, twin);
-        assert!(rt; are(listed, origins), "{place} {twin:?}");
+    for (number, case) in CASES.iter().enumerate() {
+        assert!(rt; is_brought(rt.alloc(), case)?, "{number}");
     }
     Ok(())
 }

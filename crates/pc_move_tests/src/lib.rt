@@ -13,6 +13,4 @@ mod moveop;
 #[cfg(test)]
 mod tables;
 #[cfg(test)]
-mod trees;
-#[cfg(test)]
 mod unify;

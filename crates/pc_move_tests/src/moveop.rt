@@ -1,16 +1,14 @@
 //! Items that move into the node above.
-ghost use Rattle.std.specs.Prelude.{◌<◌, ◌^◌};
-ghost use Rattle.pc_window.specs.Tree.{tree_size};
 ghost use Rattle.pc_window.specs.Steps.{IsProper};
-ghost use Rattle.pc_window.specs.StoredWindow.{tree_in, window_in, IsJustOpened};
+ghost use Rattle.pc_window.specs.StoredWindow.{window_in, IsJustOpened};
 
 use crate::tables::{GUARDED_STORE, LIMITS};
-use crate::trees::{above, leaf, test};
 use pc_moveop::{MoveError, RoomKind, move_op, why_not};
-use pc_window::{Window, WindowTree};
-use pc_window_specimen::{bare, bin, first_window, load, print, store};
-use pc_word::{Item, Limits, OpCode, Operand};
-use std::alloc::{AllocError, Global};
+use pc_window::Window;
+use pc_window_specimen::{Part, Untold, first_window, told_window};
+use pc_word::Operand::{Lit, Name};
+use pc_word::{Limits, OpCode};
+use std::alloc::Global;
 use std::test::Fail;
 
 /// Why the store may not come into the front, once it has come into the node of its test.
@@ -37,57 +35,89 @@ fn a_store_stays_below_its_test(rt: HostRuntime) -> Result<(), Fail> {
     Ok(())
 }
 
-/// Why the first item behind the first leaf of the front may not come into it, where the front has
-/// room for two items.
-fn first_refusal(alloc: Global, tree: WindowTree) -> Option<MoveError>
-    requires { tree_size (tree_in tree) < 2 ^ 31 }
-{
+/// Trees whose first item behind the first leaf of the front may not come into it, where the front has room for two items,
+/// or may, and why not.
+const REFUSALS: [(&[Part], Option<MoveError>); 6] = [
+    // A load behind a store of its element, or of another.
+    (
+        &[
+            Part::Store(5, Lit(3), Lit(1)),
+            Part::Node,
+            Part::Load(6, 0, Lit(3)),
+            Part::Stop,
+        ],
+        Some(MoveError::MemoryOrder { origin: 5 }),
+    ),
+    (
+        &[
+            Part::Store(5, Lit(3), Lit(1)),
+            Part::Node,
+            Part::Load(6, 0, Lit(4)),
+            Part::Stop,
+        ],
+        None,
+    ),
+    // A store behind a load.
+    (
+        &[
+            Part::Load(5, 0, Lit(3)),
+            Part::Node,
+            Part::Store(6, Lit(3), Lit(1)),
+            Part::Stop,
+        ],
+        None,
+    ),
+    // A print of what a load gives, and one behind another.
+    (
+        &[
+            Part::Load(5, 0, Lit(3)),
+            Part::Node,
+            Part::Print(6, Name(0)),
+            Part::Stop,
+        ],
+        Some(MoveError::Depends { name: 0 }),
+    ),
+    (
+        &[
+            Part::Print(5, Name(0)),
+            Part::Node,
+            Part::Print(6, Name(0)),
+            Part::Stop,
+        ],
+        Some(MoveError::EffectOrder),
+    ),
+    // A third sum, where one stands on each side of a test.
+    (
+        &[
+            Part::Asks(9, Lit(1)),
+            Part::Bin(6, OpCode::Add, 1, Lit(1), Lit(2)),
+            Part::Node,
+            Part::Bin(7, OpCode::Add, 1, Lit(1), Lit(2)),
+            Part::Stop,
+            Part::Bin(5, OpCode::Add, 1, Lit(1), Lit(2)),
+            Part::Stop,
+        ],
+        Some(MoveError::Full {
+            kind: RoomKind::Ops,
+        }),
+    ),
+];
+
+/// Why that item of a tree may not come into the front.
+fn refusal(alloc: Global, parts: &[Part]) -> Result<Option<MoveError>, Untold> {
     let limits = Limits {
         ops: 2,
         tests: 1,
         mem: 2,
     };
-    let window = bare(alloc, tree, limits);
-    why_not(&window, &[], 0, 0)
-}
-
-/// One item behind a front of another.
-fn two_items(alloc: Global, first: Item, second: Item) -> Result<Option<MoveError>, AllocError> {
-    let tree = above(alloc, 6, second, WindowTree::Stop)?;
-    let tree = leaf(alloc, tree)?;
-    let tree = above(alloc, 5, first, tree)?;
-    Ok(first_refusal(alloc, tree))
-}
-
-/// One item behind the yes side of a front that has one more on each side.
-fn two_sides(alloc: Global, item: Item) -> Result<Option<MoveError>, AllocError> {
-    let tree = above(alloc, 7, item, WindowTree::Stop)?;
-    let tree = leaf(alloc, tree)?;
-    let yes = above(alloc, 6, item, tree)?;
-    let no = above(alloc, 5, item, WindowTree::Stop)?;
-    let tree = test(alloc, yes, no)?;
-    Ok(first_refusal(alloc, tree))
+    let window = told_window(alloc, parts, limits)?;
+    Ok(why_not(&window, &[], 0, 0))
 }
 
 #[test]
 fn moves_are_refused(rt: HostRuntime) -> Result<(), Fail> {
-    let stored = store(Operand::Lit(3), Operand::Lit(1));
-    let loaded = load(0, Operand::Lit(3));
-    let other = load(0, Operand::Lit(4));
-    let shown = print(Operand::Name(0));
-    let sum = bin(OpCode::Add, 1, Operand::Lit(1), Operand::Lit(2));
-    assert!(&rt;
-        two_items(rt.alloc(), stored, loaded)? == Some(MoveError::MemoryOrder { origin: 5 })
-    );
-    assert!(&rt; two_items(rt.alloc(), stored, other)? == None);
-    assert!(&rt; two_items(rt.alloc(), loaded, stored)? == None);
-    assert!(&rt; two_items(rt.alloc(), loaded, shown)? == Some(MoveError::Depends { name: 0 }));
-    assert!(&rt; two_items(rt.alloc(), shown, shown)? == Some(MoveError::EffectOrder));
-    assert!(&rt;
-        two_sides(rt.alloc(), sum)?
-            == Some(MoveError::Full {
-                kind: RoomKind::Ops
-            })
-    );
+    for (number, (parts, why)) in REFUSALS.iter().enumerate() {
+        assert!(rt; refusal(rt.alloc(), parts)? == *why, "{number}");
+    }
     Ok(())
 }

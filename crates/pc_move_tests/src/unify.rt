@@ -1,17 +1,15 @@
 //! What is not used is deleted, and equal items become one.
-ghost use Rattle.std.specs.Prelude.{◌<◌, ◌^◌};
-ghost use Rattle.pc_window.specs.Tree.{tree_size};
 ghost use Rattle.pc_window.specs.Steps.{IsProper};
-ghost use Rattle.pc_window.specs.StoredWindow.{tree_in, window_in, IsJustOpened};
+ghost use Rattle.pc_window.specs.StoredWindow.{window_in, IsJustOpened};
 
 use crate::tables::{DEAD_STEP, EQUAL_SUMS, LIMITS, NARROW};
-use crate::trees::{above, leaf, test};
 use pc_moveop::MoveError;
 use pc_unify::{delete, tidy, unify, why_not_delete, why_not_unify};
 use pc_window::{Window, WindowTree};
-use pc_window_specimen::{Untold, bare, first_window, load, print, store};
-use pc_word::{Item, Operand};
-use std::alloc::{AllocError, Global};
+use pc_window_specimen::{Part, Untold, first_window, print, told_window};
+use pc_word::Operand;
+use pc_word::Operand::Lit;
+use std::alloc::Global;
 use std::test::Fail;
 
 /// The window of the sum that nothing uses, tidied.
@@ -128,41 +126,61 @@ fn equal_items_become_one(rt: HostRuntime) -> Result<(), Fail> {
     Ok(())
 }
 
-/// Why the second item behind the first leaf of the front and the first behind the second leaf may
-/// not become one.
-fn refusal(alloc: Global, tree: WindowTree) -> Option<MoveError>
-    requires { tree_size (tree_in tree) < 2 ^ 31 }
-{
-    let window = bare(alloc, tree, NARROW);
-    why_not_unify(&window, &[], 0, 1, 0)
-}
+/// Tests with two items on the yes side and one on the no side, and why the second and that one may not become one.
+const REFUSALS: [(&[Part], Option<MoveError>); 3] = [
+    // The load of the element that is stored to before it, and of another one.
+    (
+        &[
+            Part::Asks(9, Lit(1)),
+            Part::Node,
+            Part::Store(5, Lit(3), Lit(1)),
+            Part::Load(6, 0, Lit(3)),
+            Part::Stop,
+            Part::Node,
+            Part::Load(7, 1, Lit(3)),
+            Part::Stop,
+        ],
+        Some(MoveError::MemoryOrder { origin: 5 }),
+    ),
+    (
+        &[
+            Part::Asks(9, Lit(1)),
+            Part::Node,
+            Part::Store(5, Lit(3), Lit(1)),
+            Part::Load(6, 0, Lit(4)),
+            Part::Stop,
+            Part::Node,
+            Part::Load(7, 1, Lit(4)),
+            Part::Stop,
+        ],
+        None,
+    ),
+    // Loads of two elements.
+    (
+        &[
+            Part::Asks(9, Lit(1)),
+            Part::Node,
+            Part::Store(5, Lit(3), Lit(1)),
+            Part::Load(6, 0, Lit(4)),
+            Part::Stop,
+            Part::Node,
+            Part::Load(7, 0, Lit(3)),
+            Part::Stop,
+        ],
+        Some(MoveError::NotThere),
+    ),
+];
 
-/// A test with two items on its yes side and one on its no side.
-fn three_items(
-    alloc: Global,
-    first: Item,
-    second: Item,
-    other: Item,
-) -> Result<Option<MoveError>, AllocError> {
-    let yes = above(alloc, 6, second, WindowTree::Stop)?;
-    let yes = above(alloc, 5, first, yes)?;
-    let yes = leaf(alloc, yes)?;
-    let no = above(alloc, 7, other, WindowTree::Stop)?;
-    let no = leaf(alloc, no)?;
-    let tree = test(alloc, yes, no)?;
-    Ok(refusal(alloc, tree))
+/// Why those items of a tree may not become one.
+fn refusal(alloc: Global, parts: &[Part]) -> Result<Option<MoveError>, Untold> {
+    let window = told_window(alloc, parts, NARROW)?;
+    Ok(why_not_unify(&window, &[], 0, 1, 0))
 }
 
 #[test]
 fn unifications_are_refused(rt: HostRuntime) -> Result<(), Fail> {
-    let stored = store(Operand::Lit(3), Operand::Lit(1));
-    let third = Operand::Lit(3);
-    let fourth = Operand::Lit(4);
-    let same = three_items(rt.alloc(), stored, load(0, third), load(1, third))?;
-    assert!(&rt; same == Some(MoveError::MemoryOrder { origin: 5 }));
-    let other = three_items(rt.alloc(), stored, load(0, fourth), load(1, fourth))?;
-    assert!(&rt; other == None);
-    let unlike = three_items(rt.alloc(), stored, load(0, fourth), load(0, third))?;
-    assert!(&rt; unlike == Some(MoveError::NotThere));
+    for (number, (parts, why)) in REFUSALS.iter().enumerate() {
+        assert!(rt; refusal(rt.alloc(), parts)? == *why, "{number}");
+    }
     Ok(())
 }
