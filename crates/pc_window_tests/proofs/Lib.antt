@@ -1,6 +1,3 @@
-pub mod Printed
-pub mod TwoVariablesKept
+pub mod Sizes
+pub mod States
 pub mod SumWindows
-pub mod LoopingKept
-pub mod EchoingKept
-pub mod ExchangingKept

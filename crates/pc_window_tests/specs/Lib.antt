@@ -1,5 +1,0 @@
-pub mod Printed
-pub mod TwoVariables
-pub mod Looping
-pub mod Echoing
-pub mod Exchanging

@@ -1,12 +1,12 @@
 //! The first row that is cut off a window, and states that are an automaton or none.
 
-use crate::tables::{LIMITS, printed};
+use crate::tables::{LIMITS, PRINTED};
 use pc_automaton::{
     Automaton, AutomatonLeaf, AutomatonState, Left, OperandList, StateList, cut_front,
 };
 use pc_table::VarList;
-use pc_window::Window;
-use pc_word::{Item, OpCode, Operand, RowTree};
+use pc_window_specimen::{Untold, bin, opened, print, table};
+use pc_word::{OpCode, Operand, RowTree};
 use std::alloc::{AllocError, Global};
 use std::test::Fail;
 
@@ -19,26 +19,21 @@ fn prints_and_stops(row: &RowTree<Left>, printed: i32) -> bool {
         RowTree::Leaf { leaf: Left::Stop } => true,
         _ => false,
     };
-    is_leaf
-        && *item
-            == Item::Print {
-                value: Operand::Lit(printed),
-            }
+    is_leaf && *item == print(Operand::Lit(printed))
+}
+
+/// Whether the row that is cut off the window of the print alone is this print.
+#[tactic(auto, using(pc_table::proofs::StoredRegions::some_region, pc_automaton::proofs::Cuts::behind))]
+fn cuts_the_print(alloc: Global) -> Result<bool, Untold> {
+    let table = table(alloc, &PRINTED)?;
+    let window = opened(alloc, &table, 0, LIMITS)?;
+    let row = cut_front(alloc, window, &table)?;
+    Ok(prints_and_stops(&row, 7))
 }
 
 #[test]
-#[tactic(auto, using(pc_table::proofs::StoredRegions::some_region, pc_automaton::proofs::Cuts::behind))]
 fn the_front_of_an_opened_window_is_its_first_item(rt: HostRuntime) -> Result<(), Fail> {
-    let table = printed(rt.alloc())?;
-    let window = match Window::of_region(rt.alloc(), &table, 0, LIMITS) {
-        Ok(window) => window,
-        Err(_) => return Ok(()),
-    };
-    let is_so = match cut_front(rt.alloc(), window, &table) {
-        Ok(row) => prints_and_stops(&row, 7),
-        Err(_) => false,
-    };
-    assert!(&rt; is_so);
+    assert!(rt; cuts_the_print(rt.alloc())?);
     Ok(())
 }
 
@@ -57,12 +52,7 @@ fn counting(alloc: Global, arguments: u32) -> Result<StateList, AllocError> {
     };
     let next = Box::new(alloc, leaf)?;
     let row = RowTree::Step {
-        item: Item::Bin {
-            op: OpCode::Add,
-            dest: 1,
-            left: Operand::Name(0),
-            right: Operand::Lit(1),
-        },
+        item: bin(OpCode::Add, 1, Operand::Name(0), Operand::Lit(1)),
         next,
     };
     let mut parameters = VarList::new(alloc);

@@ -1,66 +1,14 @@
 //! Keys of windows.
-ghost use Rattle.std.specs.Prelude.{◌≡◌, ◌<◌, ◌^◌, length, IfOk};
-ghost use Rattle.pc_window.specs.Tree.{tree_size};
-ghost use Rattle.pc_window.specs.Opening.{TreeBelow, FormsBelow};
-ghost use Rattle.pc_window.specs.StoredWindow.{tree_in, supply_in};
+ghost use Rattle.std.specs.Prelude.{◌<◌};
+ghost use Rattle.pc_canon.specs.Keyed.{HasKey};
 
-use crate::names::eight_names;
+use crate::sums::sum_window;
 use pc_canon::{
     WindowKey, key, laws_of_canonical_forms, laws_of_keys, laws_of_shifts, same_up_to_shift,
 };
-use pc_window::{Window, WindowError, WindowTree};
-use pc_word::{Item, Limits, OpCode, Operand};
+use pc_window::{Window, WindowError};
 use std::alloc::{AllocError, Global};
 use std::test::Fail;
-
-/// `to = from + literal; print(to);` with these tags, where the front is the sum.
-fn sum_window(
-    alloc: Global,
-    from: u32,
-    to: u32,
-    literal: i32,
-    tag: u32,
-) -> Result<Window, AllocError>
-    requires from { from < 8 }
-    requires to { to < 8 }
-    ensures forms { IfOk result (λ window. FormsBelow (supply_in window.names)) }
-    ensures count { IfOk result (λ window. length window.names.forms < 2 ^ 31) }
-    ensures below { IfOk result (λ window. TreeBelow (length window.names.forms) (tree_in window.tree)) }
-    ensures small { IfOk result (λ window. tree_size (tree_in window.tree) < 2 ^ 31) }
-{
-    let names = eight_names(alloc)?;
-    let print = WindowTree::Step {
-        tag,
-        origin: 1,
-        item: Item::Print {
-            value: Operand::Name(to),
-        },
-        rest: Box::new(alloc, WindowTree::Stop)?,
-    };
-    let below = Box::new(alloc, print)?;
-    let tree = WindowTree::Step {
-        tag,
-        origin: 0,
-        item: Item::Bin {
-            op: OpCode::Add,
-            dest: to,
-            left: Operand::Name(from),
-            right: Operand::Lit(literal),
-        },
-        rest: Box::new(alloc, WindowTree::Node { below })?,
-    };
-    let limits = Limits {
-        ops: 4,
-        tests: 1,
-        mem: 2,
-    };
-    Ok(Window {
-        tree,
-        names,
-        limits,
-        inside: None,
-    })
-}
 
 /// The key of such a window.
 fn sum_key(
@@ -128,13 +76,31 @@ fn names_and_tags_do_not_show(alloc: Global) -> Result<bool, WindowError> {
     Ok(is_key(&one, BYTES, 0, 0) && is_key(&other, BYTES, 3, 7))
 }
 
+/// Whether a window is the same, up to a shift, as that of a sum.
+fn is_same_sum(
+    alloc: Global,
+    window: &Window,
+    from: u32,
+    to: u32,
+    literal: i32,
+    tag: u32,
+) -> Result<bool, WindowError>
+    requires window { HasKey window.now }
+    requires from { from < 8 }
+    requires to { to < 8 }
+{
+    let other = sum_window(alloc, from, to, literal, tag)?;
+    same_up_to_shift(alloc, window, &other)
+}
+
 /// Whether a window with other names and tags is the same up to a shift, and one with another literal is
 /// not.
 fn literals_show(alloc: Global) -> Result<bool, WindowError> {
-    let one = sum_window(alloc, 0, 1, 1, 0)?;
-    let shifted = sum_window(alloc, 3, 5, 1, 7)?;
-    let other = sum_window(alloc, 0, 1, 2, 0)?;
-    Ok(same_up_to_shift(alloc, &one, &shifted)? && !same_up_to_shift(alloc, &one, &other)?)
+    let window = sum_window(alloc, 0, 1, 1, 0)?;
+    if !is_same_sum(alloc, &window, 3, 5, 1, 7)? {
+        return Ok(false);
+    }
+    Ok(!is_same_sum(alloc, &window, 0, 1, 2, 0)?)
 }
 
 #[test]

@@ -9,13 +9,13 @@ mod canon;
 #[cfg(test)]
 mod linear;
 #[cfg(test)]
-mod names;
-#[cfg(test)]
 mod pattern;
 #[cfg(test)]
 mod rebase;
 #[cfg(test)]
 mod renumber;
+#[cfg(test)]
+mod sums;
 #[cfg(test)]
 mod tables;
 #[cfg(test)]

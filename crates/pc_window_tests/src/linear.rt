@@ -48,19 +48,27 @@ fn equalities(rt: HostRuntime) -> Result<(), Fail> {
     Ok(())
 }
 
+/// Whether a form has this constant and these terms, each a variable and a factor.
+fn has_parts(form: &LinForm, constant: i32, terms: &[(u32, i32)]) -> bool {
+    for place in 0..4u16 {
+        let wanted = match terms.get(place as usize) {
+            Some((variable, factor)) => Some(Term {
+                variable: *variable,
+                factor: *factor,
+            }),
+            None => None,
+        };
+        if form.term(place) != wanted {
+            return false;
+        }
+    }
+    form.term(4) == None && form.term(u16::MAX) == None && form.offset() == constant
+}
+
 #[test]
 fn parts(rt: HostRuntime) -> Result<(), Fail> {
     let form = linear(-3, V, 5).ok_or("linear")?;
-    assert_eq!(rt; form.offset(), 5);
-    assert_eq!(rt;
-        form.term(0),
-        Some(Term {
-            variable: V,
-            factor: -3
-        })
-    );
-    assert_eq!(rt; form.term(1), None);
-    assert_eq!(rt; form.term(u16::MAX), None);
+    assert!(rt; has_parts(&form, 5, &[(V, -3)]));
     Ok(())
 }
 
@@ -100,46 +108,55 @@ const COMBINED: &[(
     (OpCode::Below, (0, V, 1), (0, V, -1), Some((0, V, 1))),
 ];
 
+/// Whether an operator on two forms gives this one, or none; nothing where one of them is no form.
+fn gives(
+    op: OpCode,
+    left: (i32, u32, i32),
+    right: (i32, u32, i32),
+    want: Option<(i32, u32, i32)>,
+) -> Option<bool> {
+    let left = linear(left.0, left.1, left.2)?;
+    let right = linear(right.0, right.1, right.2)?;
+    let found = LinForm::combine(op, &left, &right);
+    let Some(want) = want else {
+        return Some(found.is_none());
+    };
+    let want = linear(want.0, want.1, want.2)?;
+    Some(found == Some(want))
+}
+
 #[test]
 fn operators(rt: HostRuntime) -> Result<(), Fail> {
-    for (op, left, right, want) in COMBINED {
-        let left = linear(left.0, left.1, left.2).ok_or("left")?;
-        let right = linear(right.0, right.1, right.2).ok_or("right")?;
-        let want = match want {
-            Some(form) => Some(linear(form.0, form.1, form.2).ok_or("want")?),
-            None => None,
-        };
-        assert!(rt;
-            LinForm::combine(*op, &left, &right) == want,
-            "{left:?} and {right:?}"
-        );
+    for (number, (op, left, right, want)) in COMBINED.iter().enumerate() {
+        let is_so = gives(*op, *left, *right, *want);
+        assert!(rt; is_so == Some(true), "{number}");
     }
     Ok(())
 }
 
-#[test]
-fn many_terms(rt: HostRuntime) -> Result<(), Fail> {
+/// The sum of 9 and four variables.
+fn four_terms() -> Option<LinForm> {
     let mut four = LinForm::constant(9);
     for variable in [8, 2, 6, 4] {
-        let form = LinForm::variable(variable);
-        four = LinForm::combine(OpCode::Add, &four, &form).ok_or("four terms")?;
+        four = LinForm::combine(OpCode::Add, &four, &LinForm::variable(variable))?;
     }
+    Some(four)
+}
+
+/// A form with variable 5 in the place of variable 6.
+fn exchanged(four: &LinForm) -> Option<LinForm> {
+    let less = linear(-1, 6, 0)?;
+    let swap = LinForm::combine(OpCode::Add, &LinForm::variable(5), &less)?;
+    LinForm::combine(OpCode::Add, four, &swap)
+}
+
+#[test]
+fn many_terms(rt: HostRuntime) -> Result<(), Fail> {
+    let four = four_terms().ok_or("four terms")?;
     let fifth = LinForm::variable(5);
-    assert_eq!(rt; LinForm::combine(OpCode::Add, &four, &fifth), None);
-    let other = linear(-1, 6, 0).ok_or("linear")?;
-    let swap = LinForm::combine(OpCode::Add, &fifth, &other).ok_or("two terms")?;
-    let form = LinForm::combine(OpCode::Add, &four, &swap).ok_or("four terms again")?;
-    for (place, variable) in [(0, 2), (1, 4), (2, 5), (3, 8)] {
-        assert_eq!(rt;
-            form.term(place),
-            Some(Term {
-                variable,
-                factor: 1
-            })
-        );
-    }
-    assert_eq!(rt; form.term(4), None);
-    assert_eq!(rt; form.offset(), 9);
+    assert!(rt; LinForm::combine(OpCode::Add, &four, &fifth).is_none());
+    let form = exchanged(&four).ok_or("four terms again")?;
+    assert!(rt; has_parts(&form, 9, &[(2, 1), (4, 1), (5, 1), (8, 1)]));
     laws_of_sums();
     laws_of_values();
     Ok(())

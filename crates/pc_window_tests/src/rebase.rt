@@ -1,63 +1,17 @@
 //! A window that is rebased.
-ghost use Rattle.std.specs.Prelude.{◌≡◌, IfOk};
-ghost use Rattle.pc_table.specs.StoredTable.{table_of};
-ghost use Rattle.pc_window_tests.specs.TwoVariables.{two_variables_table};
-
-use crate::tables::{LIMITS, does};
+use crate::tables::{LIMITS, TWO_VARIABLES};
 use pc_linear::{LinForm, Term};
 use pc_rebase::rebase;
-use pc_table::{Region, RegionList, RegionTable, RegionTree, VarList};
-use pc_window::{NumberList, Window, WindowError, WindowTree, parameters_of};
-use pc_word::{Item, LengthList, LoopList, OpCode, Operand};
+use pc_window::{NumberList, Window, WindowTree, parameters_of};
+use pc_window_specimen::{Untold, first_window};
+use pc_word::{Item, OpCode, Operand};
 use std::alloc::{AllocError, Global};
 use std::test::Fail;
 
-/// `a = x * 2; b = a + y; print(b);`, as one region, where x is variable 3 and y is variable 2.
-#[tactic(auto, using(crate::proofs::TwoVariablesKept::two_variables))]
-fn two_variables(alloc: Global) -> Result<RegionTable, AllocError>
-    ensures { IfOk result (λ table. table_of table ≡ two_variables_table) }
-{
-    let double = Item::Bin {
-        op: OpCode::Mul,
-        dest: 1,
-        left: Operand::Name(3),
-        right: Operand::Lit(2),
-    };
-    let sum = Item::Bin {
-        op: OpCode::Add,
-        dest: 5,
-        left: Operand::Name(1),
-        right: Operand::Name(2),
-    };
-    let print = Item::Print {
-        value: Operand::Name(5),
-    };
-    let tree = does(alloc, 2, print, RegionTree::Stop)?;
-    let tree = does(alloc, 1, sum, tree)?;
-    let tree = does(alloc, 0, double, tree)?;
-    let mut live = VarList::new(alloc);
-    live.push(2)?;
-    live.push(3)?;
-    let mut regions = RegionList::new(alloc);
-    regions.push(Region {
-        head: 0,
-        tree,
-        live,
-        inside: None,
-        heads: None,
-    })?;
-    Ok(RegionTable {
-        regions,
-        loops: LoopList::new(alloc),
-        arrays: LengthList::new(alloc),
-    })
-}
-
-/// Its window, rebased.
-#[tactic(auto, using(pc_table::proofs::StoredRegions::some_region))]
-fn rebased(alloc: Global, table: &RegionTable) -> Result<Window, WindowError> {
-    let window = Window::of_region(alloc, table, 0, LIMITS)?;
-    rebase(alloc, window)
+/// The window of the two variables, rebased.
+fn rebased(alloc: Global) -> Result<Window, Untold> {
+    let window = first_window(alloc, &TWO_VARIABLES, LIMITS)?;
+    Ok(rebase(alloc, window)?)
 }
 
 /// Whether a form has these factors, and no other term and no constant.
@@ -100,8 +54,7 @@ fn has_forms(window: &Window) -> bool {
 
 #[test]
 fn parameters_become_bases(rt: HostRuntime) -> Result<(), Fail> {
-    let table = two_variables(rt.alloc())?;
-    let is_so = match rebased(rt.alloc(), &table) {
+    let is_so = match rebased(rt.alloc()) {
         Ok(window) => has_forms(&window),
         Err(_) => false,
     };

@@ -4,55 +4,25 @@ ghost use Rattle.pc_window.specs.Tree.{tree_size};
 ghost use Rattle.pc_window.specs.Steps.{IsProper};
 ghost use Rattle.pc_window.specs.StoredWindow.{tree_in, window_in, InNodes};
 
-use crate::names::eight_names;
+use crate::sums::sum_window;
 use pc_canon::{WindowKey, key};
 use pc_linear::LinForm;
 use pc_renumber::renumber;
 use pc_window::{Window, WindowError, WindowTree};
-use pc_word::{Item, Limits, OpCode, Operand};
+use pc_window_specimen::bin;
+use pc_word::{Item, OpCode, Operand};
 use std::alloc::{AllocError, Global};
 use std::test::Fail;
 
 /// `v7 = v5 + 1; print(v7);`, where the front is the sum.
 #[tactic(auto, using(crate::proofs::SumWindows::sum_proper))]
-fn sum_window(alloc: Global) -> Result<Window, AllocError>
+fn proper_window(alloc: Global) -> Result<Window, AllocError>
     ensures proper { IfOk result (λ window. IsProper (window_in window)) }
     ensures nodes { IfOk result (λ window. InNodes true window.tree) }
     ensures few { IfOk result (λ window. length window.names.forms < 2 ^ 31) }
     ensures small { IfOk result (λ window. tree_size (tree_in window.tree) < 2 ^ 31) }
 {
-    let names = eight_names(alloc)?;
-    let print = WindowTree::Step {
-        tag: 0,
-        origin: 1,
-        item: Item::Print {
-            value: Operand::Name(7),
-        },
-        rest: Box::new(alloc, WindowTree::Stop)?,
-    };
-    let below = Box::new(alloc, print)?;
-    let tree = WindowTree::Step {
-        tag: 0,
-        origin: 0,
-        item: Item::Bin {
-            op: OpCode::Add,
-            dest: 7,
-            left: Operand::Name(5),
-            right: Operand::Lit(1),
-        },
-        rest: Box::new(alloc, WindowTree::Node { below })?,
-    };
-    let limits = Limits {
-        ops: 4,
-        tests: 1,
-        mem: 2,
-    };
-    Ok(Window {
-        tree,
-        names,
-        limits,
-        inside: None,
-    })
+    sum_window(alloc, 5, 7, 1, 0)
 }
 
 /// The key of a proper window.
@@ -76,12 +46,7 @@ fn starts_with(window: &Window, wanted: Item) -> bool {
 /// Whether two names are left, the parameter 0 and the definition 1, each with the variable of its
 /// number.
 fn is_dense(window: &Window) -> bool {
-    let sum = Item::Bin {
-        op: OpCode::Add,
-        dest: 1,
-        left: Operand::Name(0),
-        right: Operand::Lit(1),
-    };
+    let sum = bin(OpCode::Add, 1, Operand::Name(0), Operand::Lit(1));
     let names = &window.names;
     starts_with(window, sum)
         && names.forms.len() == 2
@@ -92,7 +57,7 @@ fn is_dense(window: &Window) -> bool {
 
 /// Whether the sum becomes dense, and its key stays.
 fn keeps_its_key(alloc: Global) -> Result<bool, WindowError> {
-    let window = sum_window(alloc)?;
+    let window = proper_window(alloc)?;
     let before = key_of(alloc, &window)?;
     let window = renumber(alloc, window)?;
     let after = key_of(alloc, &window)?;

@@ -1,18 +1,17 @@
 //! A region that is opened.
 
-use crate::tables::{LIMITS, printed};
+use crate::tables::{LIMITS, PRINTED};
 use pc_window::{
-    Window, laws_of_cutting, laws_of_filling, laws_of_moves, laws_of_opening, laws_of_settling,
+    laws_of_cutting, laws_of_filling, laws_of_moves, laws_of_opening, laws_of_settling,
     laws_of_tables,
 };
+use pc_window_specimen::first_window;
 use std::test::Fail;
 
 #[test]
-#[tactic(auto, using(pc_table::proofs::StoredRegions::some_region))]
+#[tactic(auto, using(crate::proofs::Sizes::opened_windows))]
 fn a_region_opens(rt: HostRuntime) -> Result<(), Fail> {
-    let table = printed(rt.alloc())?;
-    let opened = Window::of_region(rt.alloc(), &table, 0, LIMITS);
-    let size = match opened {
+    let size = match first_window(rt.alloc(), &PRINTED, LIMITS) {
         Ok(window) => window.size(),
         Err(_) => 0,
     };
