@@ -1,5 +1,4 @@
-//! What tests of graphs, regions and windows are made of: tables of regions, told part by part, their windows, and what
-//! sources are lowered to.
+//! What tests of regions and windows are made of: tables of regions, told part by part, and their windows.
 #![tactic(auto)]
 
 mod checking;
@@ -7,7 +6,6 @@ mod handmade;
 mod items;
 mod naming;
 mod sizes;
-mod sources;
 mod tables;
 mod texts;
 mod untold;
@@ -16,7 +14,6 @@ mod windows;
 pub use handmade::{bare, told_window};
 pub use items::{bin, load, print, store};
 pub use sizes::{may_be_filled, may_be_unwound, size};
-pub use sources::{graph_of, regions_of};
 pub use tables::{PLAIN, Part, ToldRegion, ToldTable, table};
 pub use texts::{front_text, tree_text};
 pub use untold::Untold;

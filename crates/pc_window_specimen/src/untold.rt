@@ -12,9 +12,6 @@ pub enum Untold {
     /// It is no tree, no table, or no region of one.
     #[error("what is told is no table")]
     NoTable,
-    /// It is no source.
-    #[error("what is told is no source")]
-    NoSource,
     /// Memory ran out.
     #[error("out of memory")]
     Memory,
