@@ -1,28 +1,20 @@
 -- Windows that were just opened, and what is left of them.
-use Rattle.std.proofs.Common.{◌≡◌, ℕ, ◌≤◌, ◌<◌, true, List, [], length, sym, ◌∙◌, ap, subst, arith}
-use Rattle.pc_word.specs.declared.item.Limits.{Limits}
-use Rattle.pc_table.specs.declared.table.RegionTable.{RegionTable}
-use Rattle.pc_table.proofs.StoredRegions.{as_many}
-use Rattle.pc_table.specs.StoredTable.{table_of}
+use Rattle.std.proofs.Common.{◌≡◌, ℕ, ◌≤◌, true, List, [], sym, ◌∙◌, ap, subst, arith}
+use Rattle.pc_table.specs.Table.{Table}
 use Rattle.pc_window.specs.declared.home.Home.{Home}
 use Rattle.pc_window.specs.declared.tree.WindowTree.TheVariants as stored
 use Rattle.pc_window.specs.declared.window.Window.{Window as StoredWindow}
 use Rattle.pc_window.specs.Tree.{tree_size}
-use Rattle.pc_window.specs.Steps.{opened_window, Positive, IsProper}
+use Rattle.pc_window.specs.Steps.{Positive, IsProper}
 use Rattle.pc_window.specs.StoredWindow.{tree_in, window_in, InNodes, IsJustOpened}
-use Rattle.pc_window.specs.WindowRun.{Window}
 use Rattle.pc_window.proofs.WindowsStored.{whole_in}
 use Rattle.pc_unwind.specs.Unwindable.{CanUnwind}
-use Rattle.pc_unwind.proofs.Opened.{opened_unwinds}
 use Rattle.pc_arranging.specs.CanArrange.{CanArrange}
 use Rattle.pc_settling.specs.Stored.{IsLeft}
 
 -- in one that was just opened steps may be done
-pub opened_can : (table : RegionTable) (limits : Limits) (region : ℕ) (w : StoredWindow) → region < length table.regions
-    → window_in w ≡ opened_window (table_of table) limits region → IsProper (window_in w) → IsJustOpened w → CanArrange (table_of table) (window_in w)
-opened_can table limits region w there is proper small =
-    let many = as_many table.regions in
-    let can = subst (λ (u : Window). CanUnwind (table_of table) u) (sym is) (opened_unwinds (table_of table) table.kept limits region (omega (arith, there, many))) in
+pub opened_can : (table : Table) (w : StoredWindow) → CanUnwind table (window_in w) → IsProper (window_in w) → IsJustOpened w → CanArrange table (window_in w)
+opened_can table w can proper small =
     let large = ap tree_size (whole_in w.tree) in
     record {
       proper = proper;

@@ -1,2 +1,1 @@
-pub mod TwoRegionsKept
 pub mod Arranged

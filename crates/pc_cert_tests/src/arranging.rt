@@ -1,11 +1,11 @@
 //! What steps make of the window of the loop's turn.
 
 use crate::shown::is_window;
-use crate::tables::{STEP, TURN, arranged, two_regions};
+use crate::tables::{STEP, TURN, TWO_REGIONS, arranged};
 use pc_arranging::laws_of_arranging;
 use pc_cert::Step;
 use pc_table::RegionTable;
-use pc_window::WindowError;
+use pc_window_specimen::{Untold, table};
 use std::alloc::Global;
 use std::test::Fail;
 
@@ -173,7 +173,7 @@ fn arranges(
     table: &RegionTable,
     steps: &[Step],
     wanted: &str,
-) -> Result<bool, WindowError> {
+) -> Result<bool, Untold> {
     match arranged(alloc, table, TURN, steps)? {
         Some(window) => Ok(is_window(alloc, &window, wanted)?),
         None => Ok(false),
@@ -186,7 +186,7 @@ fn refuses(
     table: &RegionTable,
     region: u32,
     steps: &[Step],
-) -> Result<bool, WindowError> {
+) -> Result<bool, Untold> {
     match arranged(alloc, table, region, steps)? {
         Some(_) => Ok(false),
         None => Ok(true),
@@ -195,7 +195,7 @@ fn refuses(
 
 #[test]
 fn steps_arrange_windows(rt: HostRuntime) -> Result<(), Fail> {
-    let table = two_regions(rt.alloc())?;
+    let table = table(rt.alloc(), &TWO_REGIONS)?;
     for (steps, wanted) in [BEGUN, BROUGHT, OPENED, JOINED, ENTERED, USED] {
         assert!(rt; arranges(rt.alloc(), &table, steps, wanted)?, "{steps:?}");
     }
@@ -205,7 +205,7 @@ fn steps_arrange_windows(rt: HostRuntime) -> Result<(), Fail> {
 
 #[test]
 fn steps_are_refused(rt: HostRuntime) -> Result<(), Fail> {
-    let table = two_regions(rt.alloc())?;
+    let table = table(rt.alloc(), &TWO_REGIONS)?;
     for steps in REFUSED {
         assert!(rt; refuses(rt.alloc(), &table, TURN, steps)?, "{steps:?}");
     }

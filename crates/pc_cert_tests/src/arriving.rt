@@ -3,17 +3,18 @@ ghost use Rattle.std.specs.Prelude.{true, IfOk, IfSome};
 ghost use Rattle.pc_canon.specs.Keyed.{HasKey};
 ghost use Rattle.pc_settling.specs.Stored.{IsLeft};
 
-use crate::left::{Held, bare, opened, settled, stub};
+use crate::left::{Held, opened, settled, stub};
 use crate::settling::STEPPED;
 use crate::shown::are_facts;
-use crate::tables::{AFTER, LIMITS, STEP, TURN, two_regions};
+use crate::tables::{AFTER, LIMITS, STEP, TURN, TWO_REGIONS};
 use pc_cert::{Fact, Opening, Source, WindowOperand};
 use pc_settling::{
     Begun, Remaining, arrives, begin, facts_of_entry, front_tag, laws_of_arriving, laws_of_leaves,
     progress,
 };
 use pc_table::RegionTable;
-use pc_window::{WindowError, WindowTree};
+use pc_window::WindowTree;
+use pc_window_specimen::{Untold, bare, table};
 use pc_word::{Item, Operand};
 use std::alloc::{AllocError, Global};
 use std::test::Fail;
@@ -23,7 +24,7 @@ fn begun(
     alloc: Global,
     table: &RegionTable,
     left: Option<Remaining>,
-) -> Result<Option<Begun>, WindowError>
+) -> Result<Option<Begun>, Untold>
     requires { IfSome left (λ it. IsLeft it.window) }
     ensures { IfOk result (λ begun. IfSome begun (λ it. HasKey it.window)) }
 {
@@ -33,7 +34,7 @@ fn begun(
         inside: Some(0),
     };
     match left {
-        Some(left) => begin(alloc, table, LIMITS, opening, left),
+        Some(left) => Ok(begin(alloc, table, LIMITS, opening, left)?),
         None => Ok(None),
     }
 }
@@ -66,7 +67,7 @@ fn arrives_at(
     here: &Begun,
     region: u32,
     facts: &[Held],
-) -> Result<bool, WindowError>
+) -> Result<bool, Untold>
     requires { HasKey here.now.window }
 {
     let left = settled(alloc, table, region, &[], facts)?;
@@ -74,13 +75,14 @@ fn arrives_at(
         return Ok(false);
     };
     let held = here.facts.as_slice();
-    arrives(
+    let is_so = arrives(
         alloc,
         &here.window,
         held,
         &claim.window,
         claim.facts.as_slice(),
-    )
+    )?;
+    Ok(is_so)
 }
 
 /// Whether the turn that is left behind the step arrives so at a claim.
@@ -89,7 +91,7 @@ fn arrives_behind_step(
     table: &RegionTable,
     region: u32,
     facts: &[Held],
-) -> Result<Option<bool>, WindowError> {
+) -> Result<Option<bool>, Untold> {
     let (steps, known) = STEPPED;
     let left = settled(alloc, table, STEP, steps, known)?;
     match begun(alloc, table, left)? {
@@ -100,7 +102,7 @@ fn arrives_behind_step(
 
 #[test]
 fn what_is_left_arrives_at_claims(rt: HostRuntime) -> Result<(), Fail> {
-    let table = two_regions(rt.alloc())?;
+    let table = table(rt.alloc(), &TWO_REGIONS)?;
     for (region, facts, is_so) in CLAIMS {
         let found = arrives_behind_step(rt.alloc(), &table, region, facts)?;
         assert!(rt; found == Some(is_so), "{region} {facts:?}");
@@ -138,9 +140,9 @@ fn are_facts_of_entry(
     table: &RegionTable,
     facts: &[Fact],
     wanted: Option<&str>,
-) -> Result<bool, WindowError> {
+) -> Result<bool, Untold> {
     let left = opened(alloc, table, TURN, &[])?;
-    let Some(turn) = begun(alloc, table, left)? else {
+    let Some(turn) = begun(alloc, table, Some(left))? else {
         return Ok(false);
     };
     match (facts_of_entry(alloc, &turn.window, facts)?, wanted) {
@@ -152,7 +154,7 @@ fn are_facts_of_entry(
 
 #[test]
 fn facts_of_entries_are_on_parameters(rt: HostRuntime) -> Result<(), Fail> {
-    let table = two_regions(rt.alloc())?;
+    let table = table(rt.alloc(), &TWO_REGIONS)?;
     let wanted = Some(FACTS_ON_NAMES);
     assert!(rt; are_facts_of_entry(rt.alloc(), &table, &FACTS, wanted)?);
     let third = Fact {
@@ -186,7 +188,7 @@ fn progress_is_found(rt: HostRuntime) -> Result<(), Fail> {
     assert!(rt; !progress(1, 5, 1, &window));
     // The tag is greater, but neither a test nor a stub is left.
     let tree = print_tree(rt.alloc(), 5)?;
-    let window = bare(rt.alloc(), tree);
+    let window = bare(rt.alloc(), tree, LIMITS);
     assert!(rt; !progress(1, 4, 1, &window));
     Ok(())
 }

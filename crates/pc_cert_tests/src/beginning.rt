@@ -3,12 +3,12 @@ ghost use Rattle.std.specs.Prelude.{true};
 
 use crate::left::{Held, listed, opened, stub};
 use crate::shown::{are_facts, is_window};
-use crate::tables::{LIMITS, two_regions};
+use crate::tables::{LIMITS, TWO_REGIONS};
 use pc_cert::Opening;
 use pc_matching::FactList;
 use pc_settling::{Begun, Remaining, begin, facts_at_start, laws_of_beginning};
 use pc_table::RegionTable;
-use pc_window::WindowError;
+use pc_window_specimen::{Untold, table};
 use pc_word::Operand;
 use std::alloc::Global;
 use std::test::Fail;
@@ -57,7 +57,7 @@ const KNOWN_INSIDE: &str = "\
 
 /// Whether the window that the entry leads to, and what is known there, are these: three facts of x and
 /// y, and one of each of the other 94 variables.
-fn is_unwound(alloc: Global, begun: &Begun) -> Result<bool, WindowError> {
+fn is_unwound(alloc: Global, begun: &Begun) -> Result<bool, Untold> {
     if !is_window(alloc, &begun.window, UNWOUND)? {
         return Ok(false);
     }
@@ -66,15 +66,13 @@ fn is_unwound(alloc: Global, begun: &Begun) -> Result<bool, WindowError> {
 }
 
 /// Whether the entry is entered, and unwound to two turns.
-fn enters_the_loop(alloc: Global, table: &RegionTable) -> Result<bool, WindowError> {
+fn enters_the_loop(alloc: Global, table: &RegionTable) -> Result<bool, Untold> {
     let opening = Opening {
         enters: true,
         window: 2,
         inside: Some(0),
     };
-    let Some(left) = opened(alloc, table, 0, KNOWN)? else {
-        return Ok(false);
-    };
+    let left = opened(alloc, table, 0, KNOWN)?;
     match begin(alloc, table, LIMITS, opening, left)? {
         Some(begun) => is_unwound(alloc, &begun),
         None => Ok(false),
@@ -83,7 +81,7 @@ fn enters_the_loop(alloc: Global, table: &RegionTable) -> Result<bool, WindowErr
 
 #[test]
 fn a_stub_alone_is_entered_and_unwound(rt: HostRuntime) -> Result<(), Fail> {
-    let table = two_regions(rt.alloc())?;
+    let table = table(rt.alloc(), &TWO_REGIONS)?;
     assert!(rt; enters_the_loop(rt.alloc(), &table)?);
     laws_of_beginning();
     Ok(())
@@ -111,7 +109,7 @@ fn begins(
     region: u32,
     tag: u32,
     enters: bool,
-) -> Result<bool, WindowError> {
+) -> Result<bool, Untold> {
     let opening = Opening {
         enters,
         window: 0,
@@ -125,7 +123,7 @@ fn begins(
 
 #[test]
 fn entries_begin_where_there_is_room(rt: HostRuntime) -> Result<(), Fail> {
-    let table = two_regions(rt.alloc())?;
+    let table = table(rt.alloc(), &TWO_REGIONS)?;
     for (region, tag, enters, is_so) in BEGINNINGS {
         let begun = begins(rt.alloc(), &table, region, tag, enters)?;
         assert!(rt; begun == is_so, "{region} {tag} {enters}");

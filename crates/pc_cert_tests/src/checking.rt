@@ -1,5 +1,5 @@
 //! Certificates of a loop, gone through.
-use crate::tables::two_regions;
+use crate::tables::TWO_REGIONS;
 use pc_accepted::{Flaw, LeafFlaw, Rejection};
 use pc_cert::{
     Certificate, Entry, EntryList, Fact, FactList, Opening, Source, Step, StepList, WindowOperand,
@@ -10,6 +10,7 @@ use pc_object::{NoteList, Object};
 use pc_proposing::propose;
 use pc_specimen::chain;
 use pc_table::RegionTable;
+use pc_window_specimen::table;
 use pc_word::{Item, LengthList, Limits, OpCode, Operand, RowTree, no_data};
 use std::alloc::{AllocError, Global};
 use std::test::Fail;
@@ -351,7 +352,7 @@ fn is_answered(
 #[test]
 fn a_certificate_of_a_loop_is_accepted(rt: HostRuntime) -> Result<(), Fail> {
     let alloc = rt.alloc();
-    let table = two_regions(alloc)?;
+    let table = table(alloc, &TWO_REGIONS)?;
     let whole = with_entry(alloc, 0, &BEFORE)?;
     let loop_code = code(alloc, &[])?;
     assert!(rt; is_answered(alloc, &table, &loop_code, &whole, None)?);
@@ -367,7 +368,7 @@ fn a_certificate_of_a_loop_is_accepted(rt: HostRuntime) -> Result<(), Fail> {
 #[test]
 fn others_are_refused_at_their_first_flaw(rt: HostRuntime) -> Result<(), Fail> {
     let alloc = rt.alloc();
-    let table = two_regions(alloc)?;
+    let table = table(alloc, &TWO_REGIONS)?;
     let loop_code = code(alloc, &[])?;
     for (place, told, number, flaw) in CASES {
         let certificate = with_entry(alloc, place, &told)?;
@@ -384,7 +385,7 @@ fn others_are_refused_at_their_first_flaw(rt: HostRuntime) -> Result<(), Fail> {
 #[test]
 fn what_is_proposed_is_accepted(rt: HostRuntime) -> Result<(), Fail> {
     let alloc = rt.alloc();
-    let table = two_regions(alloc)?;
+    let table = table(alloc, &TWO_REGIONS)?;
     let object = Object {
         code: code(alloc, &[])?,
         notes: NoteList::new(alloc),

@@ -1,13 +1,14 @@
 //! What is left at a leaf, settled.
 
-use crate::left::{Held, bare, settled, stub};
+use crate::left::{Held, settled, stub};
 use crate::shown::{are_facts, is_window};
-use crate::tables::{AFTER, STEP, two_regions};
+use crate::tables::{AFTER, LIMITS, STEP, TWO_REGIONS};
 use pc_cert::Step;
 use pc_machine::Leaf;
 use pc_settling::{Remaining, ends_alike, laws_of_facts, laws_of_settling};
 use pc_table::RegionTable;
-use pc_window::{WindowError, WindowTree};
+use pc_window::WindowTree;
+use pc_window_specimen::{Untold, bare, table};
 use pc_word::{Operand, TrapKind};
 use std::alloc::Global;
 use std::test::Fail;
@@ -45,12 +46,7 @@ const ENDED: (&[Step], &[Held]) = (
 );
 
 /// Whether what is left has this window and these facts.
-fn is_left(
-    alloc: Global,
-    left: &Remaining,
-    window: &str,
-    facts: &str,
-) -> Result<bool, WindowError> {
+fn is_left(alloc: Global, left: &Remaining, window: &str, facts: &str) -> Result<bool, Untold> {
     if !is_window(alloc, &left.window, window)? {
         return Ok(false);
     }
@@ -64,7 +60,7 @@ fn settles(
     region: u32,
     done: (&[Step], &[Held]),
     wanted: (&str, &str),
-) -> Result<bool, WindowError> {
+) -> Result<bool, Untold> {
     let (steps, facts) = done;
     let (window, known) = wanted;
     match settled(alloc, table, region, steps, facts)? {
@@ -76,7 +72,7 @@ fn settles(
 #[test]
 fn what_is_left_is_settled(rt: HostRuntime) -> Result<(), Fail> {
     let alloc = rt.alloc();
-    let table = two_regions(alloc)?;
+    let table = table(alloc, &TWO_REGIONS)?;
     assert!(rt; settles(alloc, &table, STEP, STEPPED, TURNED)?);
     let ended = ("behind\nend\n", "Name(0) has Name(96)\n");
     assert!(rt; settles(alloc, &table, AFTER, ENDED, ended)?);
@@ -96,7 +92,7 @@ const fn trapped(line: u32) -> Leaf {
 #[test]
 fn leaves_end_as_windows_do(rt: HostRuntime) -> Result<(), Fail> {
     let alloc = rt.alloc();
-    let window = bare(alloc, WindowTree::Stop);
+    let window = bare(alloc, WindowTree::Stop, LIMITS);
     assert!(rt; ends_alike(Leaf::Stop, &window));
     assert!(rt; !ends_alike(Leaf::Goto { row: 0 }, &window));
     assert!(rt; !ends_alike(trapped(3), &window));
@@ -104,7 +100,7 @@ fn leaves_end_as_windows_do(rt: HostRuntime) -> Result<(), Fail> {
         kind: TrapKind::DivideByZero,
         line: 3,
     };
-    let window = bare(alloc, trap);
+    let window = bare(alloc, trap, LIMITS);
     assert!(rt; ends_alike(trapped(3), &window));
     assert!(rt; !ends_alike(trapped(4), &window));
     assert!(rt; !ends_alike(Leaf::Stop, &stub(alloc, AFTER, 0)));
