@@ -9,8 +9,7 @@ use crate::shown::are_facts;
 use crate::tables::{AFTER, LIMITS, STEP, TURN, TWO_REGIONS};
 use pc_cert::{Fact, Opening, Source, WindowOperand};
 use pc_settling::{
-    Begun, Remaining, arrives, begin, facts_of_entry, front_tag, laws_of_arriving, laws_of_leaves,
-    progress,
+    Begun, Remaining, arrives, begin, facts_of_entry, laws_of_arriving, laws_of_leaves, progress,
 };
 use pc_table::RegionTable;
 use pc_window::WindowTree;
@@ -181,7 +180,7 @@ fn print_tree(alloc: Global, tag: u32) -> Result<WindowTree, AllocError> {
 #[test]
 fn progress_is_found(rt: HostRuntime) -> Result<(), Fail> {
     let window = stub(rt.alloc(), AFTER, 5);
-    assert!(rt; front_tag(&window) == 5);
+    assert!(rt; window.front_tag() == 5);
     // The rank falls, or the tag is greater, or neither.
     assert!(rt; progress(2, 9, 1, &window));
     assert!(rt; progress(1, 4, 1, &window));

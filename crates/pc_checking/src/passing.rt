@@ -9,7 +9,6 @@ use crate::leaves::leaves_lead_on;
 use crate::setting::{Departure, Setting};
 use pc_accepted::{Flaw, Rejection};
 use pc_cert::Entry;
-use pc_settling::front_tag;
 use pc_word::OutOfMemory;
 use std::alloc::Global;
 
@@ -37,7 +36,7 @@ fn pass(
     };
     let departure = Departure {
         rank: entry.rank,
-        tag: front_tag(&arrived.window),
+        tag: arrived.window.front_tag(),
     };
     let steps = entry.steps.as_slice();
     let Arranged { window, helds } = match arrange(alloc, setting.table, steps, arrived, row)? {

@@ -53,10 +53,7 @@ found_progress claim next w =
 -- ---- in memory
 
 -- what is said of a tree in memory is said of the window's tree
-pub front_tag_in : (w : StoredWindow) → front_tag (tree_in w.tree) ≡ front_tag (whole (window_in w).front)
-front_tag_in w = ap front_tag (sym (whole_in w.tree))
-
 pub has_one_in : (w : StoredWindow) → has_test_or_stub (tree_in w.tree) ≡ has_test_or_stub (whole (window_in w).front)
 has_one_in w = ap has_test_or_stub (sym (whole_in w.tree))
 
-pub ruleset fronts = (front_tag_in, has_one_in)
+pub ruleset fronts = (has_one_in)

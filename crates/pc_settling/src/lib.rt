@@ -19,7 +19,7 @@ pub use arriving::arrives;
 pub use beginning::begin;
 pub use ends::ends_alike;
 pub use entry_facts::facts_of_entry;
-pub use going_on::{front_tag, progress};
+pub use going_on::progress;
 pub use laws::{
     laws_of_arriving, laws_of_beginning, laws_of_facts, laws_of_leaves, laws_of_settling,
 };

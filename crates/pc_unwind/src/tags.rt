@@ -5,7 +5,7 @@ ghost use Rattle.pc_window.specs.Unwinding.{lesser_tag, least_inside, least_tag,
 ghost use Rattle.pc_window.specs.StoredWindow.{tree_in};
 
 use pc_table::RegionTable;
-use pc_window::WindowTree;
+use pc_window::{WindowTree, lesser_tag};
 
 /// The least tags of a tree, where it has any.
 #[derive(Clone, Copy, Debug)]
@@ -67,16 +67,5 @@ fn add_tags(table: &RegionTable, inside: Option<u16>, tree: &WindowTree, least: 
         }
         WindowTree::Stop => {}
         WindowTree::Trap { .. } => {}
-    }
-}
-
-/// The lesser of two tags, where there are any.
-fn lesser_tag(one: Option<u32>, other: Option<u32>) -> Option<u32>
-    ensures { result ≡ lesser_tag one other }
-{
-    match (one, other) {
-        (Some(one), Some(other)) => Some(one.min(other)),
-        (Some(one), None) => Some(one),
-        (None, other) => other,
     }
 }

@@ -14,6 +14,7 @@ mod listed_names;
 mod listing;
 mod names;
 mod nodes;
+mod tags;
 mod tree;
 mod window;
 
@@ -31,6 +32,7 @@ pub use names::NameTable;
 pub use nodes::{in_node, is_leaf};
 use pc_linear::LinForm;
 use pc_word::Seq;
+pub use tags::lesser_tag;
 pub use tree::WindowTree;
 pub use window::Window;
 
