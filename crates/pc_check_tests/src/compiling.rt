@@ -5,15 +5,12 @@ ghost use Rattle.pc_word.specs.Ranges.{AreLimits, IsExtent};
 
 use pc_cert::Certificate;
 use pc_checking::check;
-use pc_compile::{Compiled, compile_with};
+use pc_compile::{Compiled, compile};
 use pc_flow::Flow;
-use pc_forward::Forward;
 use pc_machine::{Code, well_formed};
 use pc_object::{decode, encode};
-use pc_pass::Pass;
+use pc_passes::passes;
 use pc_proposing::propose;
-use pc_ranges::Ranges;
-use pc_scalar::{Copies, Dead, Fold, Values};
 use pc_source::read_program;
 use pc_table::RegionTable;
 use pc_word::{Extent, Limits, MOST_OBJECT, MOST_SOURCE};
@@ -46,14 +43,8 @@ fn compile_source(alloc: Global, text: &[u8], options: Options) -> Result<Compil
         return Err(Fail::from("the source is too long"));
     }
     let checked = read_program(alloc, text)?;
-    let mut passes: Vec<Box<dyn Pass>> = Vec::new(alloc);
-    passes.push(Box::new(alloc, Fold::new(alloc))?)?;
-    passes.push(Box::new(alloc, Ranges::new(alloc))?)?;
-    passes.push(Box::new(alloc, Copies::new(alloc))?)?;
-    passes.push(Box::new(alloc, Values::new(alloc))?)?;
-    passes.push(Box::new(alloc, Forward::new(alloc))?)?;
-    passes.push(Box::new(alloc, Dead::new(alloc))?)?;
-    Ok(compile_with(alloc, &checked, &mut passes, options.limits, options.extent)?)
+    let mut passes = passes(alloc)?;
+    Ok(compile(alloc, &checked, &mut passes, options.limits, options.extent)?)
 }
 
 /// A source's object, with a certificate that is proposed for it.

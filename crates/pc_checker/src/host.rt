@@ -10,7 +10,7 @@ use pc_pass::Pass;
 use std::process::ExitCode;
 
 /// Runs the checker with these passes over the flow graph, and gives the status that it ends with.
-pub fn run(rt: &HostRuntime, passes: &mut Vec<Box<dyn Pass>>) -> ExitCode {
+pub fn run<P: Pass>(rt: &HostRuntime, passes: &mut Vec<P>) -> ExitCode {
     ExitCode::from(verdict_of(rt, passes).code)
 }
 
@@ -20,7 +20,7 @@ pub fn run_out(rt: &HostRuntime) -> ExitCode {
 }
 
 /// What `check_tool` answers to the words of the command line.
-fn verdict_of(rt: &HostRuntime, passes: &mut Vec<Box<dyn Pass>>) -> Verdict {
+fn verdict_of<P: Pass>(rt: &HostRuntime, passes: &mut Vec<P>) -> Verdict {
     let Ok(words) = read_words(rt) else {
         return no_memory(rt);
     };

@@ -26,7 +26,7 @@ pub use error::CompileError;
 pub use laws::{law_of_choices, law_of_chosen_forms, laws_of_pace};
 use pc_emit::RegionForm;
 use pc_word::Seq;
-pub use program::{Compiled, compile, compile_with};
+pub use program::{Compiled, compile};
 
 /// Why a region did not get the forms before its own, in their order.
 pub type CauseList = Seq<Cause>;

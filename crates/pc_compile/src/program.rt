@@ -54,26 +54,7 @@ pub struct Compiled {
 /// chosen anew over the rows then, which are tightened at last, and the code gets the fewer registers where it
 /// names no others. It fails where the graph would have more than 16,384 nodes, and where memory runs out; then
 /// some of the passes may have been applied.
-pub fn compile(
-    alloc: Global,
-    checked: &Checked,
-    passes: &mut Vec<Box<dyn Pass>>,
-    limits: Limits,
-    extent: Extent,
-) -> Result<Compiled, CompileError>
-    requires limits { AreLimits limits }
-    requires extent { IsExtent extent }
-    ensures compiled { IfOk result (λ it. IsCompiled (resolved_of checked.now) (Chain (λ b. does b) (λ b. changed b) passes.old.items passes.new.items)
-        limits extent it.flow (table_of it.table) it.choices (object_of it.object)) }
-    ensures uncompiled { IfErr result (λ error. IsUncompiled (resolved_size (resolved_of checked.now)) error) }
-    ensures named { map (λ b. label b) passes.new.items ≡ map (λ b. label b) passes.old.items }
-    ensures ran { OnOk result (EachRose (map (λ b. runs b) passes.old.items) (map (λ b. runs b) passes.new.items)) }
-{
-    compile_with(alloc, checked, passes, limits, extent)
-}
-
-/// The same for passes of one type, boxed ones among them.
-pub fn compile_with<P: Pass>(
+pub fn compile<P: Pass>(
     alloc: Global,
     checked: &Checked,
     passes: &mut Vec<P>,

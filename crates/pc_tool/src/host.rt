@@ -10,7 +10,7 @@ use pc_report::{Speaker, ToolFault};
 use std::process::ExitCode;
 
 /// Runs a program with these passes over the flow graph, and gives the status that it ends with.
-pub fn run(rt: &HostRuntime, who: Who, passes: &mut Vec<Box<dyn Pass>>) -> ExitCode {
+pub fn run<P: Pass>(rt: &HostRuntime, who: Who, passes: &mut Vec<P>) -> ExitCode {
     ExitCode::from(status_of(rt, who, passes).code)
 }
 
@@ -20,7 +20,7 @@ pub fn run_out(rt: &HostRuntime, who: Who) -> ExitCode {
 }
 
 /// What `tool` answers to the words of the command line.
-fn status_of(rt: &HostRuntime, who: Who, passes: &mut Vec<Box<dyn Pass>>) -> Status {
+fn status_of<P: Pass>(rt: &HostRuntime, who: Who, passes: &mut Vec<P>) -> Status {
     let Ok(words) = read_words(rt) else {
         return no_memory(rt, who);
     };

@@ -64,19 +64,19 @@ pub enum Who {
 ///
 /// With each status but 0 one line is sent to the error output, which tells what was due, or a proper
 /// prefix of it where that output fails. With status 0 of `Pcc` alone, what was compiled is handed out.
-pub fn tool<H: Shelf, I: Source, O: Sink, E: Sink>(
+pub fn tool<P: Pass, H: Shelf, I: Source, O: Sink, E: Sink>(
     alloc: Global,
     who: Who,
     words: &[String],
-    passes: &mut Vec<Box<dyn Pass>>,
+    passes: &mut Vec<P>,
     shelf: &mut H,
     input: &mut I,
     out: &mut O,
     err: &mut E,
 ) -> Status
     ensures compiler { who ≡ Pcc → CompilerPromise (compile_command_of (spelled words.now))
-        (IsScheduledAs (Chain (λ b. does b) (λ b. changed b) passes.old.items passes.new.items) result.compiled)
-        (counts_of (λ b. label b) (λ b. changed b) passes.new.items)
+        (IsScheduledAs (Chain P.does P.changed passes.old.items passes.new.items) result.compiled)
+        (counts_of P.label P.changed passes.new.items)
         (outside_of (H.state shelf.old) (streamed (I.left input.old) (I.faults input.old)) (streamed (O.taken out.old) (O.faults out.old)) (streamed (E.taken err.old) (E.faults err.old)))
         (outside_of (H.state shelf.new) (streamed (I.left input.new) (I.faults input.new)) (streamed (O.taken out.new) (O.faults out.new)) (streamed (E.taken err.new) (E.faults err.new)))
         result.code }
@@ -87,8 +87,8 @@ pub fn tool<H: Shelf, I: Source, O: Sink, E: Sink>(
     ensures handed { IsSome result.compiled ↔ ((who ≡ Pcc) × (result.code ≡ 0)) }
     ensures object { IfSome result.compiled (λ it. IsObject (object_of it.object)) }
     ensures input_kept { who ≡ Pcc → input.new ≡ input.old }
-    ensures ran { who ≡ Pcc → result.code ≡ 0 → EachRose (map (λ b. runs b) passes.old.items) (map (λ b. runs b) passes.new.items) }
-    ensures named { map (λ b. label b) passes.new.items ≡ map (λ b. label b) passes.old.items }
+    ensures ran { who ≡ Pcc → result.code ≡ 0 → EachRose (map P.runs passes.old.items) (map P.runs passes.new.items) }
+    ensures named { map P.label passes.new.items ≡ map P.label passes.old.items }
     ensures passes_kept { who ≡ Pvm → passes.new ≡ passes.old }
 {
     match who {

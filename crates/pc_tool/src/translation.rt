@@ -8,7 +8,7 @@ ghost use Rattle.pc_tool.specs.models.Translating.{IsTranslation};
 ghost use Rattle.pc_word.specs.Ranges.{AreLimits, IsExtent};
 
 use pc_check::Checked;
-use pc_compile::{CompileError, Compiled, compile_with};
+use pc_compile::{CompileError, Compiled, compile};
 use pc_object::encode;
 use pc_pass::Pass;
 use pc_word::{Extent, Limits};
@@ -37,7 +37,7 @@ pub(crate) fn translate<P: Pass>(
     ensures named { map P.label passes.new.items ≡ map P.label passes.old.items }
     ensures ran { OnOk result (EachRose (map P.runs passes.old.items) (map P.runs passes.new.items)) }
 {
-    let compiled = compile_with(alloc, checked, passes, limits, extent)?;
+    let compiled = compile(alloc, checked, passes, limits, extent)?;
     let bytes = encode(alloc, &compiled.object)?;
     Ok(Translation { compiled, bytes })
 }

@@ -2,30 +2,14 @@
 #![tactic(auto)]
 
 use pc_checker::{run, run_out};
-use pc_forward::Forward;
-use pc_pass::Pass;
-use pc_ranges::Ranges;
-use pc_scalar::{Copies, Dead, Fold, Values};
-use std::alloc::AllocError;
+use pc_passes::passes;
 use std::process::ExitCode;
 
+/// Checks with the passes over the flow graph that the compiler applies. Whatever passes are applied, what is accepted
+/// means what the source means; but a certificate speaks of the regions that these passes leave.
 fn main(rt: HostRuntime) -> ExitCode {
-    match check(&rt) {
-        Ok(status) => status,
+    match passes(rt.alloc()) {
+        Ok(mut passes) => run(&rt, &mut passes),
         Err(_) => run_out(&rt),
     }
-}
-
-/// Checks with the passes over the flow graph that the compiler applies, in its order. Whatever passes are applied, what
-/// is accepted means what the source means; but a certificate speaks of the regions that these passes leave.
-fn check(rt: &HostRuntime) -> Result<ExitCode, AllocError> {
-    let alloc = rt.alloc();
-    let mut passes: Vec<Box<dyn Pass>> = Vec::new(alloc);
-    passes.push(Box::new(alloc, Fold::new(alloc))?)?;
-    passes.push(Box::new(alloc, Ranges::new(alloc))?)?;
-    passes.push(Box::new(alloc, Copies::new(alloc))?)?;
-    passes.push(Box::new(alloc, Values::new(alloc))?)?;
-    passes.push(Box::new(alloc, Forward::new(alloc))?)?;
-    passes.push(Box::new(alloc, Dead::new(alloc))?)?;
-    Ok(run(rt, &mut passes))
 }

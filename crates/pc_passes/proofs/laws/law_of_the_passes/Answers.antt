@@ -1,4 +1,4 @@
-use Rattle.pc_passes.proofs.Passes.{the_passes_make}
+use Rattle.pc_passes.proofs.Chains.{the_passes_make}
 use Rattle.pc_passes.proofs.laws.law_of_the_passes.Goals as goal
 
 pub returns : goal.returns

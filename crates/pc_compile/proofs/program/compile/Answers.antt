@@ -12,7 +12,7 @@ use Rattle.pc_compile.specs.models.Made.{IsObjectOf}
 use Rattle.pc_compile.proofs.Emittable.{are_forms}
 use Rattle.pc_compile.proofs.CostBounds.{most_are_enough}
 use Rattle.pc_compile.proofs.Compilations.{are_arrays, all_plain_is_short, is_compiled}
-use Rattle.pc_compile.proofs.program.compile_with.Goals as goal
+use Rattle.pc_compile.proofs.program.compile.Goals as goal
 
 pub choose-requires-clause-small : goal.choose-requires-clause-small
 choose-requires-clause-small g c =
