@@ -7,7 +7,6 @@ use Rattle.pc_table.specs.StoredTable.{table_of}
 use Rattle.pc_window.specs.declared.window.Window.{Window as StoredWindow}
 use Rattle.pc_window.specs.Steps.{opened_window}
 use Rattle.pc_window.specs.StoredWindow.{tree_in, window_in, InNodes}
-use Rattle.pc_window.specs.There.{PartsAreThere}
 use Rattle.pc_window.specs.Tree.{tree_size}
 use Rattle.pc_window.specs.WindowRun.{Window}
 use Rattle.pc_window.proofs.WindowsStored.{whole_in, in_nodes_behind}
@@ -22,23 +21,8 @@ opened_can table limits region w there is =
     let many = as_many table.regions in
     subst (λ (u : Window). CanUnwind (table_of table) u) (sym is) (opened_unwinds (table_of table) table.kept limits region (omega (arith, there, many)))
 
--- a small one that names what is there
-pub small_can : (table : RegionTable) (w : StoredWindow) → PartsAreThere (table_of table) (2 ^ 30) (tree_in w.tree) → tree_size (tree_in w.tree) ≤ 2048
-    → length w.names.forms ≤ 2 ^ 30 → w.names.next_variable ≤ 2 ^ 30 → CanUnwind (table_of table) (window_in w)
-small_can table w there size names variables =
-    let same = whole_in w.tree in
-    let as_large = ap tree_size same in
-    record {
-      parts = subst (PartsAreThere (table_of table) (2 ^ 30)) (sym same) there;
-      size = omega (arith, as_large, size);
-      names = names;
-      variables = variables;
-    }
-
 -- a small one of single nodes
 pub small_fills : (w : StoredWindow) → InNodes true w.tree → tree_size (tree_in w.tree) ≤ 2048
     → length w.names.forms ≤ 2 ^ 30 → w.names.next_variable ≤ 2 ^ 30 → IsFillable w
 small_fills w nodes size names variables =
     record { size = size; nodes = in_nodes_behind w.tree nodes; names = omega (arith, names); variables = omega (arith, variables) }
-
-pub ruleset small_windows = (small_can, small_fills)

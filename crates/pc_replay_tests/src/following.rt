@@ -1,28 +1,21 @@
 //! Windows that follow one another: each is left behind the front of one that was filled.
-ghost use Rattle.std.specs.Prelude.{◌≡◌, ◌<◌, ◌≤◌, ◌^◌, true, length, IfOk};
+ghost use Rattle.std.specs.Prelude.{◌<◌, true, length, IfOk};
 ghost use Rattle.pc_word.specs.Ranges.{AreLimits};
-ghost use Rattle.pc_table.specs.StoredTable.{table_of};
-ghost use Rattle.pc_window.specs.Tree.{tree_size};
 ghost use Rattle.pc_window.specs.Steps.{IsProper};
-ghost use Rattle.pc_window.specs.StoredWindow.{tree_in, window_in, InNodes};
-ghost use Rattle.pc_unwind.specs.Unwindable.{CanUnwind};
+ghost use Rattle.pc_window.specs.StoredWindow.{window_in, InNodes};
 
-use crate::bounds::size;
-use crate::naming::parts_are_there;
 use pc_rebase::rebase;
 use pc_replay::ReplayError;
 use pc_table::RegionTable;
 use pc_unify::tidy;
 use pc_unwind::unwind;
 use pc_window::{Window, WindowError};
+use pc_window_specimen::may_be_unwound;
 use pc_word::Limits;
-use std::alloc::{AllocError, Global};
+use std::alloc::Global;
 
 /// How many turns of a loop stand in a window.
 pub(crate) const TURNS: u8 = 4;
-
-/// The items and tests of a window that is unwound or filled.
-const MOST_SIZE: u32 = 2048;
 
 /// The window of a region, with so many turns of its loop where it heads an innermost one.
 pub(crate) fn unwound(
@@ -39,36 +32,6 @@ pub(crate) fn unwound(
 {
     let window = Window::of_region(alloc, table, region, limits)?;
     unwind(alloc, window, table, turns)
-}
-
-/// Whether a window is small enough to be unwound and filled.
-pub(crate) fn may_be_filled(window: &Window) -> bool
-    ensures size { (result ≡ true) → tree_size (tree_in window.now.tree) ≤ 2048 }
-    ensures names { (result ≡ true) → length window.now.names.forms ≤ 2 ^ 30 }
-    ensures variables { (result ≡ true) → window.now.names.next_variable ≤ 2 ^ 30 }
-{
-    let Some(size) = size(&window.tree) else {
-        return false;
-    };
-    if size > MOST_SIZE || window.names.forms.len() > 1 << 30 {
-        return false;
-    }
-    window.names.next_variable <= 1 << 30
-}
-
-/// Whether a window may be unwound.
-#[tactic(auto, using(crate::proofs::Unwound::small_windows))]
-pub(crate) fn may_be_unwound(
-    alloc: Global,
-    table: &RegionTable,
-    window: &Window,
-) -> Result<bool, AllocError>
-    ensures { IfOk result (λ may. may ≡ true → CanUnwind (table_of table.now) (window_in window.now)) }
-{
-    if !may_be_filled(window) {
-        return Ok(false);
-    }
-    parts_are_there(alloc, table, &window.tree)
 }
 
 /// What is left at a leaf, rebased, unwound and tidied.

@@ -8,12 +8,13 @@ ghost use Rattle.pc_replay_tests.specs.Waiting.{CanBeFilled};
 ghost use Rattle.pc_word.specs.StoredRow.{row_in, EachLeaf};
 
 use crate::comparing::{Compared, compare, key_of};
-use crate::following::{brought_on, may_be_filled};
+use crate::following::brought_on;
 use pc_automaton::{Left, cut_front};
 use pc_canon::WindowKey;
 use pc_replay::ReplayError;
 use pc_table::RegionTable;
 use pc_window::Window;
+use pc_window_specimen::may_be_filled;
 use pc_word::RowTree;
 use std::alloc::{AllocError, Global};
 use std::collections::{BTreeSet, VecDeque};

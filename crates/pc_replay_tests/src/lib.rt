@@ -15,8 +15,6 @@ mod following;
 #[cfg(test)]
 mod leaves;
 #[cfg(test)]
-mod naming;
-#[cfg(test)]
 mod programs;
 #[cfg(test)]
 mod replay;

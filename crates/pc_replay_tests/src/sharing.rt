@@ -2,7 +2,6 @@
 ghost use Rattle.std.specs.Prelude.{◌<◌, length, IfSome};
 ghost use Rattle.pc_shared.specs.SharedWindows.{IsNode};
 
-use crate::bounds::size as size_of;
 use crate::copying::copied;
 use crate::following::unwound;
 use crate::programs::{narrow, regions_of};
@@ -10,6 +9,7 @@ use pc_arena::NodeId;
 use pc_shared::{SharedWindow, merged};
 use pc_table::RegionTable;
 use pc_window::{Window, WindowError};
+use pc_window_specimen::size as size_of;
 use std::alloc::Global;
 use std::test::Fail;
 

@@ -5,8 +5,7 @@ ghost use Rattle.pc_window.specs.StoredWindow.{tree_in, window_in, InNodes, Node
 ghost use Rattle.pc_window.specs.Tree.{tree_size};
 
 use crate::bounds::is_small;
-use crate::following::{TURNS, may_be_filled, may_be_unwound};
-use crate::worked::first_rest;
+use crate::following::TURNS;
 use pc_automaton::cut_front;
 use pc_fill::fill;
 use pc_movecj::{move_cj, why_not as why_not_test};
@@ -17,6 +16,7 @@ use pc_table::RegionTable;
 use pc_unify::{tidy, unify, why_not_unify};
 use pc_unwind::unwind;
 use pc_window::{Window, WindowTree};
+use pc_window_specimen::{first_rest, may_be_filled, may_be_unwound};
 use std::alloc::Global;
 
 /// A step that makes a window of a window.

@@ -1,22 +1,21 @@
 //! A loop's windows, opened, unwound and rebased, against windows that were worked out by hand.
-ghost use Rattle.std.specs.Prelude.{◌≡◌, true, IfSome, IfOk};
+ghost use Rattle.std.specs.Prelude.{◌≡◌, true, IfOk};
 ghost use Rattle.pc_table.specs.Table.{table_tree};
 ghost use Rattle.pc_table.specs.StoredTable.{table_of};
-ghost use Rattle.pc_window.specs.Steps.{IsProper, EachLeft};
+ghost use Rattle.pc_window.specs.Steps.{IsProper};
 ghost use Rattle.pc_window.specs.StoredWindow.{window_in, InNodes};
-ghost use Rattle.pc_automaton.specs.StoredLeft.{left_in, LeftInNodes};
 ghost use Rattle.pc_replay_tests.specs.WorkedLoop.{body_tree, loop_tree, loop_table};
-ghost use Rattle.pc_word.specs.StoredRow.{row_in, EachLeaf};
 
 use crate::following::unwound;
 use crate::tables::{asks, does};
-use pc_automaton::{Left, cut_front};
+use pc_automaton::cut_front;
 use pc_linear::LinForm;
 use pc_rebase::rebase;
 use pc_replay::ReplayError;
 use pc_table::{Region, RegionList, RegionTable, RegionTree, VarList};
 use pc_window::{NameTable, Window, WindowTree};
-use pc_word::{Item, LengthList, Limits, LoopList, LoopMark, OpCode, Operand, RowTree};
+use pc_window_specimen::first_rest;
+use pc_word::{Item, LengthList, Limits, LoopList, LoopMark, OpCode, Operand};
 use std::alloc::{AllocError, Global};
 use std::test::Fail;
 
@@ -269,28 +268,6 @@ fn is_worked(alloc: Global, window: &Window, worked: &str) -> Result<bool, Alloc
     write_tree(alloc, &window.tree, &mut text)?;
     write_names(alloc, &window.names, &mut text)?;
     Ok(text.as_str() == worked)
-}
-
-/// What is left at the first leaf of a row at which a window is left.
-pub(crate) fn first_rest(row: RowTree<Left>) -> Option<Window>
-    requires nodes { EachLeaf LeftInNodes row }
-    requires proper { EachLeft IsProper (row_in left_in row) }
-    ensures nodes { IfSome result (λ window. InNodes true window.tree) }
-    ensures proper { IfSome result (λ window. IsProper (window_in window)) }
-{
-    match row {
-        RowTree::Step { next, .. } => first_rest(Box::into_inner(next)),
-        RowTree::Test { yes, no, .. } => match first_rest(Box::into_inner(yes)) {
-            Some(window) => Some(window),
-            None => first_rest(Box::into_inner(no)),
-        },
-        RowTree::Leaf { leaf } => match leaf {
-            Left::Rest { window } => Some(window),
-            Left::Out { .. } => None,
-            Left::Stop => None,
-            Left::Trap { .. } => None,
-        },
-    }
 }
 
 /// What is left behind the first item or test of a window whose nodes are single.
