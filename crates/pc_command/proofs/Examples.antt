@@ -9,6 +9,7 @@ use Rattle.pc_command.specs.Requests.{CheckRequest, CompileRequest, OfFile, OfSa
 use Rattle.pc_command.specs.Requests.{explain_command_of, explain_request_in, source_place_of, simulate_command_of, simulate_request_in}
 use Rattle.pc_command.specs.Requests.{check_command_of, check_request_in}
 use Rattle.pc_command.specs.Requests.{assemble_command_of, assemble_request_in, stat_command_of, stat_request_in, view_command_of, view_request_in}
+use Rattle.pc_command.specs.declared.explain.ExplainMode.TheVariants as form
 use Rattle.pc_command.specs.declared.stat.StatMode.TheVariants as mode
 use Rattle.pc_command.proofs.Programs.{argument_tables}
 
@@ -190,9 +191,25 @@ line-given : explain_command_of (codes "--loop" ∷ (codes "1048577" ∷ (codes 
       limits = record { ops = 8; tests = 3; mem = 2 };
       extent = record { window = 4; rows = 1 };
       line = Some 1048577;
+      mode = form.Text;
     })
 unfolding commands
 line-given = refl
+
+graph-given : explain_command_of (codes "--dot" ∷ (codes "x.c" ∷ []))
+    ≡ Some (record {
+      source = OfFile (codes "x.c");
+      limits = record { ops = 8; tests = 3; mem = 2 };
+      extent = record { window = 4; rows = 256 };
+      line = None;
+      mode = form.Dot;
+    })
+unfolding commands
+graph-given = refl
+
+two-forms : explain_command_of (codes "--dot" ∷ (codes "x.c" ∷ (codes "--json" ∷ []))) ≡ None
+unfolding commands
+two-forms = refl
 
 line-below : explain_command_of (codes "x.c" ∷ (codes "--loop" ∷ (codes "0" ∷ []))) ≡ None
 unfolding commands

@@ -12,8 +12,9 @@ use Rattle.pc_word.specs.Ranges.{AreCycles}
 use Rattle.pc_command.specs.Requests.{CompileRequest, OfFile, OfSample, SourcePlace, SimulateRequest, compile_command_of, compile_request_in}
 use Rattle.pc_command.specs.Requests.{behind_at, extent_in, limits_in, source_place_behind, source_place_of, sample_number_of, simulate_command_of, simulate_request_in}
 use Rattle.pc_command.specs.Options.{cycles_option, loop_option, number_found, number_in}
-use Rattle.pc_command.specs.Requests.{CheckRequest, ExplainRequest, check_command_of, check_request_in, explain_command_of, explain_request_in}
+use Rattle.pc_command.specs.Requests.{CheckRequest, ExplainRequest, check_command_of, check_request_in, explain_command_of, explain_mode_in, explain_request_for, explain_request_in}
 use Rattle.pc_command.specs.Requests.{StatRequest, mode_in, mode_of, stat_command_of, stat_request_in}
+use Rattle.pc_command.specs.declared.explain.ExplainMode.{ExplainMode}
 use Rattle.pc_command.specs.declared.stat.StatMode.{StatMode}
 use Rattle.pc_command.specs.declared.stat.StatMode.TheVariants as mode
 use Rattle.pc_command.proofs.Sources.{behind_at-is_none}
@@ -155,19 +156,15 @@ check_command_of-range words request e = by (matches_taken check_app words) e
 -- what the explainer's matches ask is in range
 explain_request_in-range : (matches : Matches) (request : ExplainRequest) → explain_request_in matches ≡ Some request → IsExplainInRange request
 unfolding explain_request_in
-explain_request_in-range matches request e = by (source_place_of (word_in (codes "SRC") matches)) refl e
+explain_request_in-range matches request e = by (explain_mode_in matches) (source_place_of (word_in (codes "SRC") matches)) refl e
   where
-    by : (o : Option SourcePlace) → source_place_of (word_in (codes "SRC") matches) ≡ o → explain_request_in matches ≡ Some request
-        → IsExplainInRange request
-    by None h e = absurd (let bad : None ≡ Some request = rw h at e in cc)
-    by (Some place) h e =
-        let is = value_is _ request (rw h at e) in
-        let held : IsExplainInRange record {
-          source = place;
-          limits = limits_in matches;
-          extent = extent_in matches;
-          line = number_found loop_option matches;
-        } = record {
+    by : (mode : Option ExplainMode) (place : Option SourcePlace) → source_place_of (word_in (codes "SRC") matches) ≡ place
+        → option_and_then (λ mode. option_map (explain_request_for matches mode) place) mode ≡ Some request → IsExplainInRange request
+    by None place h e = absurd (cc)
+    by (Some mode) None h e = absurd (cc)
+    by (Some mode) (Some place) h e =
+        let is = value_is _ request e in
+        let held : IsExplainInRange (explain_request_for matches mode place) = record {
           source = source_place_of-IsSourcePlace (word_in (codes "SRC") matches) place h;
           limits = limits_in-range matches;
           extent = extent_in-range matches;

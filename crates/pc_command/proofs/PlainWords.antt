@@ -233,7 +233,7 @@ explain-fault source is = rw (explain-walk_fault source is, explain-walked sourc
 
 -- one plain word that names a source is a command of the explainer
 pub plain_word-explains : PlainWordExplains
-unfolding explain_command_of explain_request_in matches_taken word_in number_in argument_tables
+unfolding explain_command_of explain_request_in matches_taken word_in flag_in number_in argument_tables
 plain_word-explains source place is named = rw (explain-fault source is, explain-walked source is, named) refl
 
 -- ---- the assembler's words

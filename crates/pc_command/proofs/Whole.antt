@@ -251,8 +251,10 @@ explain_rules_are_plain =
     (also (used_rule _ _ refl refl refl refl)
     (also (used_rule _ _ refl refl refl refl)
     (also (used_rule _ _ refl refl refl refl)
+    (also (used_rule _ _ refl refl refl refl)
+    (also (used_rule _ _ refl refl refl refl)
     (also (record { first = refl; plain = refl; valued = λ used. used; defaults = refl })
-    tt)))))))
+    tt)))))))))
 
 module _ (rules : List Rule) (matches : Matches) (hold : AllByRecursion (Holds rules) matches) where
   -- a word that is given
@@ -378,4 +380,6 @@ explain_matches-whole words matches e =
         rows = number_of explain_rules matches are.hold rows_option _ plain.1.1.1.1.1.0 refl refl (are.defaults.1.1.1.1.1.0 refl);
       };
       line = number_if_given explain_rules matches are.hold loop_option _ plain.1.1.1.1.1.1.0 refl refl;
+      dot = flag_of explain_rules matches are.hold _ plain.1.1.1.1.1.1.1.0 refl (are.defaults.1.1.1.1.1.1.1.0 refl);
+      json = flag_of explain_rules matches are.hold _ plain.1.1.1.1.1.1.1.1.0 refl (are.defaults.1.1.1.1.1.1.1.1.0 refl);
     }

@@ -51,7 +51,7 @@ compile_app = app_with (codes "pcc") (
     ∷ (flag_argument (codes "report")
     ∷ []))))))))
 
--- `pexplain SRC [--ops N] [--tests N] [--mem N] [--window N] [--rows N] [--loop LINE]`
+-- `pexplain SRC [--ops N] [--tests N] [--mem N] [--window N] [--rows N] [--loop LINE] [--dot] [--json]`
 unfoldable pub explain_app : App
 explain_app = app_with (codes "pexplain") (
     word_argument (codes "SRC")
@@ -61,7 +61,9 @@ explain_app = app_with (codes "pexplain") (
     ∷ (number_argument window_option
     ∷ (number_argument rows_option
     ∷ (optional_argument loop_option
-    ∷ [])))))))
+    ∷ (flag_argument (codes "dot")
+    ∷ (flag_argument (codes "json")
+    ∷ [])))))))))
 
 -- `pvm OBJ [--cycles N]`
 unfoldable pub simulate_app : App

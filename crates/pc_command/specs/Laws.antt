@@ -10,6 +10,7 @@ use Rattle.pc_command.specs.Arguments.{assemble_app, check_app, compile_app, exp
 use Rattle.pc_command.specs.Options.{cycles_option, loop_option, mem_option, number_found, ops_option, rows_option, tests_option, trace_option, window_option}
 use Rattle.pc_command.specs.Requests.{CompileRequest, OfFile, OfSample, SourcePlace, SimulateRequest, compile_command_of, simulate_command_of, source_place_of}
 use Rattle.pc_command.specs.Requests.{CheckRequest, ExplainRequest, StatRequest, assemble_command_of, check_command_of, explain_command_of, stat_command_of, view_command_of}
+use Rattle.pc_command.specs.declared.explain.ExplainMode.TheVariants as form
 use Rattle.pc_command.specs.declared.stat.StatMode.TheVariants as mode
 
 -- ---- the ranges of a command
@@ -106,11 +107,13 @@ pub record AreCheckMatches (matches : Matches) : Type 0 where
   pub make : IsSome (flag_found (codes "make") matches)
   pub why : IsSome (flag_found (codes "why") matches)
 
--- and of the explainer's; a line is there where one is given
+-- and of the explainer's; a line is there where one is given, and the state of each flag
 pub record AreExplainMatches (matches : Matches) : Type 0 where
   pub source : IsSome (first_of (codes "SRC") matches)
   pub numbers : AreScheduleMatches matches
   pub line : IsSome (one_of (codes "loop") matches) → IsSome (number_found loop_option matches)
+  pub dot : IsSome (flag_found (codes "dot") matches)
+  pub json : IsSome (flag_found (codes "json") matches)
 
 -- the matches that `clap` gives of words that it takes lack nothing, so no command has a word or a number that stands for a missing one
 abbrev pub CompileMatchesAreWhole : Type 0
@@ -179,11 +182,17 @@ abbrev pub PlainWordProfiles : Type 0
 PlainWordProfiles = (object : List ℕ) → IsPlainWord object
     → stat_command_of (object ∷ []) ≡ Some (record { object = object; cycles = 100000000; mode = mode.Summary })
 
--- `SRC` asks how all innermost loops of the source that it names are scheduled, with the defaults
+-- `SRC` asks how all innermost loops of the source that it names are scheduled, in lines, with the defaults
 abbrev pub PlainWordExplains : Type 0
 PlainWordExplains = (source : List ℕ) (place : SourcePlace) → IsPlainWord source → source_place_of source ≡ Some place
     → explain_command_of (source ∷ [])
-    ≡ Some (record { source = place; limits = record { ops = 8; tests = 3; mem = 2 }; extent = record { window = 4; rows = 256 }; line = None })
+    ≡ Some (record {
+      source = place;
+      limits = record { ops = 8; tests = 3; mem = 2 };
+      extent = record { window = 4; rows = 256 };
+      line = None;
+      mode = form.Text;
+    })
 
 -- no words are no command
 abbrev pub NoWordsAreNoCommand : Type 0

@@ -14,6 +14,8 @@ use Rattle.pc_command.specs.declared.source.SourceName.TheVariants as name
 use Rattle.pc_command.specs.declared.compile.CompileCommand.{CompileCommand}
 use Rattle.pc_command.specs.declared.check.CheckCommand.{CheckCommand}
 use Rattle.pc_command.specs.declared.explain.ExplainCommand.{ExplainCommand}
+use Rattle.pc_command.specs.declared.explain.ExplainMode.{ExplainMode}
+use Rattle.pc_command.specs.declared.explain.ExplainMode.TheVariants as form
 use Rattle.pc_command.specs.declared.assemble.AssembleCommand.{AssembleCommand}
 use Rattle.pc_command.specs.declared.simulate.SimulateCommand.{SimulateCommand}
 use Rattle.pc_command.specs.declared.view.ViewCommand.{ViewCommand}
@@ -70,6 +72,7 @@ pub record ExplainRequest : Type 0 where
   pub limits : Limits
   pub extent : Extent
   pub line : Option ℕ
+  pub mode : ExplainMode
 
 -- the number that bytes spell in decimal digits alone, where it is one from 0 to 4294967295
 abbrev pub sample_number_of : List ℕ → Option ℕ
@@ -151,14 +154,31 @@ check_request_in matches = option_map (λ source. record {
   why = flag_in (codes "why") matches;
 }) (source_place_of (word_in (codes "SRC") matches))
 
--- what the explainer's matches ask, where SRC names a source
-unfoldable pub explain_request_in : Matches → Option ExplainRequest
-explain_request_in matches = option_map (λ source. record {
+-- which text the explainer is asked for: at most one of the words asks for one, and without them it is the one in lines
+abbrev pub explain_mode_of : (dot json : Bool) → Option ExplainMode
+explain_mode_of false false = Some form.Text
+explain_mode_of true false = Some form.Dot
+explain_mode_of false true = Some form.Json
+explain_mode_of true true = None
+
+-- which one the explainer's matches ask for
+abbrev pub explain_mode_in : Matches → Option ExplainMode
+explain_mode_in matches = explain_mode_of (flag_in (codes "dot") matches) (flag_in (codes "json") matches)
+
+-- what the explainer's matches ask of a source, for a text
+abbrev pub explain_request_for : Matches → ExplainMode → SourcePlace → ExplainRequest
+explain_request_for matches mode source = record {
   source = source;
   limits = limits_in matches;
   extent = extent_in matches;
   line = number_found loop_option matches;
-}) (source_place_of (word_in (codes "SRC") matches))
+  mode = mode;
+}
+
+-- what the explainer's matches ask, where they ask for one text and SRC names a source
+unfoldable pub explain_request_in : Matches → Option ExplainRequest
+explain_request_in matches =
+    option_and_then (λ mode. option_map (explain_request_for matches mode) (source_place_of (word_in (codes "SRC") matches))) (explain_mode_in matches)
 
 -- what words ask of the compiler, if they are a command: `clap` takes them, and SRC names a source
 unfoldable pub compile_command_of : List (List ℕ) → Option CompileRequest
@@ -184,7 +204,7 @@ stat_command_of words = option_and_then stat_request_in (matches_taken stat_app 
 unfoldable pub check_command_of : List (List ℕ) → Option CheckRequest
 check_command_of words = option_and_then check_request_in (matches_taken check_app words)
 
--- what words ask of the explainer, if they are a command: `clap` takes them, and SRC names a source
+-- what words ask of the explainer, if they are a command: `clap` takes them, they ask for one text, and SRC names a source
 unfoldable pub explain_command_of : List (List ℕ) → Option ExplainRequest
 explain_command_of words = option_and_then explain_request_in (matches_taken explain_app words)
 
@@ -231,7 +251,13 @@ check_request command = record {
 
 -- and for the explainer
 abbrev pub explain_request : ExplainCommand → ExplainRequest
-explain_request command = record { source = source_place command.source; limits = command.limits; extent = command.extent; line = command.line }
+explain_request command = record {
+  source = source_place command.source;
+  limits = command.limits;
+  extent = command.extent;
+  line = command.line;
+  mode = command.mode;
+}
 
 -- why words are refused: they are no command; want of memory has no cause
 abbrev pub command_cause : CommandError → Option CommandError

@@ -59,7 +59,7 @@ pub(crate) fn compile_app<'a>(alloc: Global) -> Result<Command<'a>, clap::Error>
     Ok(command)
 }
 
-/// `pexplain SRC [--ops N] [--tests N] [--mem N] [--window N] [--rows N] [--loop LINE]`.
+/// `pexplain SRC [--ops N] [--tests N] [--mem N] [--window N] [--rows N] [--loop LINE] [--dot] [--json]`.
 pub(crate) fn explain_app<'a>(alloc: Global) -> Result<Command<'a>, clap::Error>
     ensures app { IfOk result (λ command. app_of command ≡ explain_app) }
     ensures memory { IfErr result (λ error. kind_of error ≡ OutOfMemory) }
@@ -72,7 +72,9 @@ pub(crate) fn explain_app<'a>(alloc: Global) -> Result<Command<'a>, clap::Error>
         .arg(OptionLine::mem().argument(alloc))?
         .arg(OptionLine::window().argument(alloc))?
         .arg(OptionLine::rows().argument(alloc))?
-        .arg(OptionLine::source_line().optional_argument(alloc))?;
+        .arg(OptionLine::source_line().optional_argument(alloc))?
+        .arg(flag_argument(alloc, "dot"))?
+        .arg(flag_argument(alloc, "json"))?;
     Ok(command)
 }
 

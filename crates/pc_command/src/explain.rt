@@ -5,10 +5,10 @@ ghost use Rattle.pc_word.specs.Ranges.{IsExtent, AreLimits};
 ghost use Rattle.pc_command.specs.Matching.{matches_in};
 ghost use Rattle.pc_command.specs.Laws.{AreExplainMatches};
 ghost use Rattle.pc_command.specs.Options.{loop_option, number_found};
-ghost use Rattle.pc_command.specs.Requests.{command_cause, explain_command_of, explain_request, explain_request_in};
+ghost use Rattle.pc_command.specs.Requests.{command_cause, explain_command_of, explain_mode_in, explain_mode_of, explain_request, explain_request_in};
 ghost use Rattle.pc_command.specs.Words.{spelled};
 
-use crate::arguments::{explain_app, matches_of, word_in};
+use crate::arguments::{explain_app, flag_in, matches_of, word_in};
 use crate::number_option::OptionLine;
 use crate::schedule::{extent_in, limits_in};
 use crate::source::source_named;
@@ -16,6 +16,17 @@ use crate::{CommandError, SourceName};
 use clap::ArgMatches;
 use pc_word::{Extent, Limits};
 use std::alloc::Global;
+
+/// The text in which the explainer tells what the compiler found.
+#[derive(Clone, Copy, Debug, PartialEq, Eq)]
+pub enum ExplainMode {
+    /// The loops and their schedules, in lines.
+    Text,
+    /// The automaton of each loop as a graph in the language DOT, with colours for iterations.
+    Dot,
+    /// What the lines tell, as JSON.
+    Json,
+}
 
 /// What the explainer is to do.
 #[derive(Clone, Copy, Debug, PartialEq, Eq)]
@@ -26,13 +37,15 @@ pub struct ExplainCommand<'a> {
     pub extent: Extent,
     /// The line of the loops that are explained, all where it is none.
     pub line: Option<u32>,
+    /// The text that is asked for.
+    pub mode: ExplainMode,
 }
 
 /// Reads the words after the explainer's own name:
-/// `SRC [--ops N] [--tests N] [--mem N] [--window N] [--rows N] [--loop LINE]`.
+/// `SRC [--ops N] [--tests N] [--mem N] [--window N] [--rows N] [--loop LINE] [--dot | --json]`.
 ///
 /// What `clap` takes is taken: `--ops=5`, `+8` and leading zeros too. A SRC that begins with `@` is
-/// the number of a sample, or the words are no command.
+/// the number of a sample, or the words are no command, nor are words that ask for two texts.
 pub fn explain_command<'a>(
     alloc: Global,
     words: &'a [String],
@@ -46,7 +59,7 @@ pub fn explain_command<'a>(
     command_in(&matches).ok_or(CommandError::NoCommand)
 }
 
-/// What the matches ask, where SRC names a source.
+/// What the matches ask, where they ask for one text and SRC names a source.
 #[tactic(auto, unfolding(crate::specs::Requests::explain_request_in))]
 fn command_in<'a>(matches: &ArgMatches<'a>) -> Option<ExplainCommand<'a>>
     requires { AreExplainMatches (matches_in matches.now) }
@@ -54,12 +67,14 @@ fn command_in<'a>(matches: &ArgMatches<'a>) -> Option<ExplainCommand<'a>>
     ensures limits { IfSome result (λ command. AreLimits command.limits) }
     ensures extent { IfSome result (λ command. IsExtent command.extent) }
 {
+    let mode = mode_in(matches)?;
     let source = source_named(word_in(matches, "SRC"))?;
     Some(ExplainCommand {
         source,
         limits: limits_in(matches),
         extent: extent_in(matches),
         line: line_in(matches),
+        mode,
     })
 }
 
@@ -70,4 +85,24 @@ fn line_in(matches: &ArgMatches<'_>) -> Option<u32>
 {
     let line = OptionLine::source_line().number_found(matches)?;
     Some(line as u32)
+}
+
+/// The text that the matches ask for, if it is one.
+fn mode_in(matches: &ArgMatches<'_>) -> Option<ExplainMode>
+    requires { AreExplainMatches (matches_in matches.now) }
+    ensures { result ≡ explain_mode_in (matches_in matches.now) }
+{
+    mode_of(flag_in(matches, "dot"), flag_in(matches, "json"))
+}
+
+/// The text that these words ask for, if it is one.
+fn mode_of(dot: bool, json: bool) -> Option<ExplainMode>
+    ensures { result ≡ explain_mode_of dot json }
+{
+    match (dot, json) {
+        (false, false) => Some(ExplainMode::Text),
+        (true, false) => Some(ExplainMode::Dot),
+        (false, true) => Some(ExplainMode::Json),
+        (true, true) => None,
+    }
 }

@@ -19,7 +19,7 @@ pub use assemble::{AssembleCommand, assemble_command};
 pub use check::{CheckCommand, check_command};
 pub use compile::{CompileCommand, compile_command};
 pub use error::CommandError;
-pub use explain::{ExplainCommand, explain_command};
+pub use explain::{ExplainCommand, ExplainMode, explain_command};
 pub use laws::{laws_of_matches, laws_of_plain_words, laws_of_ranges};
 pub use simulate::{SimulateCommand, simulate_command};
 pub use source::SourceName;

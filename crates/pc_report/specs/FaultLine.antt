@@ -39,7 +39,7 @@ usage_text Pview = codes "usage: pview OBJ [--dot]"
 usage_text Pstat = codes "usage: pstat OBJ [--cycles N] [--rows | --trace N | --dot | --json]"
 usage_text Pasm = codes "usage: pasm TEXT -o OBJ"
 usage_text Pcheck = codes "usage: pcheck SRC OBJ CERT [--make] [--why]"
-usage_text Pexplain = codes "usage: pexplain SRC [--ops N] [--tests N] [--mem N] [--window N] [--rows N] [--loop LINE]"
+usage_text Pexplain = codes "usage: pexplain SRC [--ops N] [--tests N] [--mem N] [--window N] [--rows N] [--loop LINE] [--dot | --json]"
 
 -- what is wrong at a line of a source
 abbrev pub line_fault_text : LineFault → List ℕ

@@ -110,7 +110,7 @@ fn usage(who: Speaker) -> &'static str
         Speaker::Pasm => "usage: pasm TEXT -o OBJ",
         Speaker::Pcheck => "usage: pcheck SRC OBJ CERT [--make] [--why]",
         Speaker::Pexplain => {
-            "usage: pexplain SRC [--ops N] [--tests N] [--mem N] [--window N] [--rows N] [--loop LINE]"
+            "usage: pexplain SRC [--ops N] [--tests N] [--mem N] [--window N] [--rows N] [--loop LINE] [--dot | --json]"
         }
     }
 }

@@ -2,7 +2,7 @@
 
 use crate::words::words_of;
 use pc_command::{
-    CheckCommand, CommandError, CompileCommand, ExplainCommand, SourceName, StatMode,
+    CheckCommand, CommandError, CompileCommand, ExplainCommand, ExplainMode, SourceName, StatMode,
     check_command, compile_command, explain_command, laws_of_matches, laws_of_plain_words,
     laws_of_ranges, simulate_command, stat_command, view_command,
 };
@@ -182,16 +182,35 @@ fn compiles_as(
     Ok(compile_command(alloc, words.as_slice()) == wanted)
 }
 
-/// What words of the explainer ask: the source, how many items a row may have, and the line of the loops, if one is named.
-type Asked = (SourceName<'static>, u8, Option<u32>);
+/// What words of the explainer ask: the source, how many items a row may have, the line of the loops, if one is named, and the form.
+type Asked = (SourceName<'static>, u8, Option<u32>, ExplainMode);
 
 /// What the words of the explainer give, or that they are refused.
-static LOOPS: [(&str, Option<Asked>); 10] = [
-    ("x.c", Some((SourceName::File("x.c"), 8, None))),
-    ("x.c --loop 7", Some((SourceName::File("x.c"), 8, Some(7)))),
+static LOOPS: [(&str, Option<Asked>); 13] = [
+    (
+        "x.c",
+        Some((SourceName::File("x.c"), 8, None, ExplainMode::Text)),
+    ),
+    (
+        "x.c --loop 7",
+        Some((SourceName::File("x.c"), 8, Some(7), ExplainMode::Text)),
+    ),
     (
         "--ops 16 --loop=1048577 @7",
-        Some((SourceName::Sample(7), 16, Some(1_048_577))),
+        Some((
+            SourceName::Sample(7),
+            16,
+            Some(1_048_577),
+            ExplainMode::Text,
+        )),
+    ),
+    (
+        "--dot x.c",
+        Some((SourceName::File("x.c"), 8, None, ExplainMode::Dot)),
+    ),
+    (
+        "@7 --json --loop 3",
+        Some((SourceName::Sample(7), 8, Some(3), ExplainMode::Json)),
     ),
     ("", None),
     ("x.c -o y", None),
@@ -200,6 +219,7 @@ static LOOPS: [(&str, Option<Asked>); 10] = [
     ("x.c --loop 0", None),
     ("x.c --loop 1048578", None),
     ("x.c --ops 33", None),
+    ("x.c --json --dot", None),
 ];
 
 /// The command of `x.c -o y` and these numbers.
@@ -274,7 +294,7 @@ fn explainer_takes_and_refuses(rt: HostRuntime) -> Result<(), Fail> {
     for (line, asked) in LOOPS.iter() {
         let words = words_of(rt.alloc(), line)?;
         let wanted = match *asked {
-            Some((source, ops, line)) => Ok(ExplainCommand {
+            Some((source, ops, line, mode)) => Ok(ExplainCommand {
                 source,
                 limits: Limits {
                     ops,
@@ -282,6 +302,7 @@ fn explainer_takes_and_refuses(rt: HostRuntime) -> Result<(), Fail> {
                 },
                 extent: plain.extent,
                 line,
+                mode,
             }),
             None => Err(CommandError::NoCommand),
         };

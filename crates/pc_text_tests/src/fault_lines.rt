@@ -171,7 +171,7 @@ pub(crate) static EXPLAINER: [(ToolFault<'static>, &str); 4] = [
         ToolFault::Usage {
             who: Speaker::Pexplain,
         },
-        "usage: pexplain SRC [--ops N] [--tests N] [--mem N] [--window N] [--rows N] [--loop LINE]\n",
+        "usage: pexplain SRC [--ops N] [--tests N] [--mem N] [--window N] [--rows N] [--loop LINE] [--dot | --json]\n",
     ),
     (
         ToolFault::Source {

@@ -7,7 +7,9 @@ use Rattle.pc_command.proofs.arguments.explain_app.Goals as goal
 pub returns-clause-app : goal.returns-clause-app
 unfolding explain_app
 returns-clause-app c =
-    added _ _ _ _ _ c.in_ok-command.ensures c.optional_argument.ensures.local
+    added _ _ _ _ _ c.in_ok-command.ensures c.flag_argument-2.ensures.local
+    (added _ _ _ _ _ c.in_ok-arg-8.ensures c.flag_argument.ensures.local
+    (added _ _ _ _ _ c.in_ok-arg-7.ensures c.optional_argument.ensures.local
     (added _ _ _ _ _ c.in_ok-arg-6.ensures c.argument-5.ensures.local
     (added _ _ _ _ _ c.in_ok-arg-5.ensures c.argument-4.ensures.local
     (added _ _ _ _ _ c.in_ok-arg-4.ensures c.argument-3.ensures.local
@@ -21,4 +23,6 @@ returns-clause-app c =
     (c.argument-3.ensures.rule ∙ ap number_argument c.mem.ensures))
     (c.argument-4.ensures.rule ∙ ap number_argument c.window.ensures))
     (c.argument-5.ensures.rule ∙ ap number_argument c.rows.ensures))
-    (c.optional_argument.ensures.rule ∙ ap optional_argument c.source_line.ensures)
+    (c.optional_argument.ensures.rule ∙ ap optional_argument c.source_line.ensures))
+    c.flag_argument.ensures.rule)
+    c.flag_argument-2.ensures.rule
