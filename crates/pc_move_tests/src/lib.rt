@@ -14,3 +14,5 @@ mod moveop;
 mod tables;
 #[cfg(test)]
 mod unify;
+#[cfg(test)]
+mod waiting;
