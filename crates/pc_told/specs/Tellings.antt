@@ -1,5 +1,6 @@
--- What is told of a row: of which iteration each item and test is and where in the flow graph it comes from, and how far each leaf goes on.
-use Rattle.std.specs.Prelude.{ℕ, ◌-◌, if◌then◌else◌, List, map, Option, Some, None}
+-- What is told of a row: of which iteration each item and test is and where in the flow graph it comes from, how far each leaf goes on, and what
+-- waits there.
+use Rattle.std.specs.Prelude.{◌≡◌, ℕ, ◌-◌, if◌then◌else◌, List, [], ◌∷◌, ◌++◌, map, Option, Some, None}
 use Rattle.pc_word.specs.declared.item.Item.{Item}
 use Rattle.pc_word.specs.declared.item.Operand.{Operand}
 use Rattle.pc_word.specs.Row.{Row, Then, Either, At_leaf}
@@ -8,6 +9,8 @@ use Rattle.pc_table.specs.Loops.{is_inside}
 use Rattle.pc_window.specs.Tree.{Tree, Pending, Undecided, Exit, Stop_exit, Trap_exit, Front, Issued, Split, Unfinished, whole}
 use Rattle.pc_window.specs.Unwinding.{front_tag}
 use Rattle.pc_window.specs.WindowRun.{Window}
+use Rattle.pc_waiting.specs.declared.obstacle.Waiting.{Waiting}
+use Rattle.pc_waiting.specs.Waiting.{WhatWaits}
 use Rattle.pc_told.specs.declared.told_row.ToldRow.{ToldRow}
 use Rattle.pc_told.specs.declared.told_row.ToldRow.TheVariants as told
 
@@ -65,6 +68,12 @@ first_iteration w = front_tag (whole w.front)
 -- what a window's front tells, with iterations counted from the first of which the window has anything
 abbrev pub telling_of : Table → Window → Telling
 telling_of table w = front_telling table w.inside (first_iteration w) w.front
+
+-- what waits behind a window's front, with iterations counted so, is put behind what was told of windows before
+pub record HasToldWaits (before after : List (List Waiting)) (w : Window) : Type 0 where
+  pub found : List Waiting
+  pub are : WhatWaits (first_iteration w) w found
+  pub told : after ≡ before ++ (found ∷ [])
 
 -- ---- the row of which it is told
 

@@ -4,7 +4,7 @@ ghost use Rattle.pc_table.specs.StoredTable.{table_of};
 ghost use Rattle.pc_window.specs.StoredWindow.{front_in, window_in};
 ghost use Rattle.pc_told.specs.Tellings.{telling_in, telling_of, front_telling, telling_behind};
 
-use crate::advance::{advance_at_root, advance_behind, front_tag};
+use crate::advance::{advance_at_root, advance_behind};
 use crate::told_row::ToldRow;
 use pc_table::RegionTable;
 use pc_window::{Window, WindowTree};
@@ -20,7 +20,7 @@ impl ToldRow {
     ) -> Result<ToldRow, AllocError>
         ensures { IfOk result (λ row. telling_in row ≡ telling_of (table_of table.now) (window_in window.now)) }
     {
-        let first = front_tag(&window.tree);
+        let first = window.tree.front_tag();
         of_front(alloc, table, window.inside, first, &window.tree)
     }
 }

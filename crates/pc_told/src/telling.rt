@@ -7,8 +7,8 @@ ghost use Rattle.pc_pattern.specs.Pattern.{rules_for, IsFound, IsNotFound};
 ghost use Rattle.pc_told.specs.Tellings.{tellings_in};
 ghost use Rattle.pc_told.specs.ToldRows.{AreTold};
 
-use crate::ToldRowList;
 use crate::teller::Teller;
+use crate::{ToldRowList, WaitingLists};
 use pc_automaton::Automaton;
 use pc_pattern::{SearchError, search_with};
 use pc_table::RegionTable;
@@ -22,10 +22,12 @@ pub struct Told {
     pub automaton: Automaton,
     /// One row for each of its states, in their order.
     pub rows: ToldRowList,
+    /// What waits behind the row of each, and why, with iterations counted as in the row.
+    pub waiting: WaitingLists,
 }
 
 /// Searches for the automaton of a region as `pc_pattern::search` does, and tells of each state's row of which iteration and of
-/// which node of the flow graph its items and tests are, and how many iterations its leaves go on. A told row has the items and
+/// which node of the flow graph its items and tests are, how many iterations its leaves go on, and what waits there and why. A told row has the items and
 /// tests of the state's row and its leaves, one by one, but the names that are written are those of the window.
 ///
 /// It fails with the keys of all members where there are more of them than rows, and where memory runs out.
@@ -40,14 +42,18 @@ pub fn tell(
     requires limits { AreLimits limits }
     requires extent { IsExtent extent }
     ensures found { IfOk result (λ told. IsFound (rules_for (table_of table.now) limits extent.window) region extent.rows (states_in told.automaton)) }
-    ensures told { IfOk result (λ told. AreTold (rules_for (table_of table.now) limits extent.window) region extent.rows (states_in told.automaton) (tellings_in told.rows)) }
+    ensures told { IfOk result (λ told. AreTold (rules_for (table_of table.now) limits extent.window) region extent.rows (states_in told.automaton) (tellings_in told.rows) told.waiting) }
     ensures not_found { IfErr result (λ error. IsNotFound (rules_for (table_of table.now) limits extent.window) region extent.rows error) }
 {
-    let rows = ToldRowList::new(alloc);
-    let mut teller = Teller { table, rows };
+    let mut teller = Teller {
+        table,
+        rows: ToldRowList::new(alloc),
+        waiting: WaitingLists::new(alloc),
+    };
     let automaton = search_with(alloc, table, region, limits, extent, &mut teller)?;
     Ok(Told {
         automaton,
         rows: teller.rows,
+        waiting: teller.waiting,
     })
 }
