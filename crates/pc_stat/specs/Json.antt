@@ -14,46 +14,15 @@
 use Rattle.std.specs.Prelude.{ℕ, suc, List, [], ◌∷◌, ◌++◌, codes, map, Option, Some, None, slice_index_or}
 use Rattle.pc_word.specs.declared.item.End.{End}
 use Rattle.pc_word.specs.declared.item.End.TheVariants.{Ended, Trapped, Fault}
-use Rattle.pc_word.specs.declared.item.Limits.{Limits}
 use Rattle.pc_word.specs.declared.item.MachineFault.{MachineFault}
 use Rattle.pc_word.specs.declared.item.TrapKind.{TrapKind}
-use Rattle.pc_word.specs.Line.{line}
 use Rattle.pc_machine.specs.MachineCode.{RowCode}
 use Rattle.pc_report.specs.FaultLine.{machine_fault_text, trap_text}
 use Rattle.pc_count.specs.Counts.{RunProfile}
 use Rattle.pc_count.specs.Work.{copy_cycles, work_of}
 use Rattle.pc_count.specs.declared.work.Work.{Work}
-use Rattle.serde_json.specs.Data.{Data, Members, array, no_members, number, object, put, string, unsigned}
-use Rattle.serde_json.specs.View.{items_of}
-use Rattle.serde_json.specs.Written.{compact_text}
-
--- ---- values
-
--- a member of an object: its name and its value
-pub record Field : Type 0 where
-  pub name : List ℕ
-  pub value : Data
-
--- members with more of them
-abbrev pub with_fields : Members → List Field → Members
-with_fields members [] = members
-with_fields members (field ∷ rest) = with_fields (put field.name field.value members) rest
-
--- the object with these members
-abbrev pub object_of : List Field → Data
-object_of fields = object (with_fields no_members fields)
-
--- a whole number
-abbrev pub whole : ℕ → Data
-whole n = number (unsigned n)
-
--- a member that is a whole number
-abbrev pub count_field : List ℕ → ℕ → Field
-count_field name n = record { name = name; value = whole n }
-
--- a member that is a text
-abbrev pub text_field : List ℕ → List ℕ → Field
-text_field name text = record { name = name; value = string text }
+use Rattle.serde_json.specs.Data.{Data}
+use Rattle.pc_json.specs.Json.{Field, count_field, field, json_line, limits_json, list_of, object_of, text_field, whole}
 
 -- ---- the end
 
@@ -77,20 +46,15 @@ abbrev pub end_json : Option End → Data
 end_json (Some end) = last_json end
 end_json None = object_of (text_field (codes "kind") (codes "budget") ∷ [])
 
--- ---- limits and rows
-
--- how many items, tests, and loads and stores a row may have
-abbrev pub limits_json : Limits → Data
-limits_json limits =
-    object_of (count_field (codes "items") limits.ops ∷ count_field (codes "tests") limits.tests ∷ count_field (codes "loads_and_stores") limits.mem ∷ [])
+-- ---- rows
 
 -- counts, in their order
 abbrev pub counts_json : List ℕ → Data
-counts_json counts = array (items_of (map whole counts))
+counts_json counts = list_of (map whole counts)
 
 -- a row: how many cycles began in it, and how many left it by each of its leaves
 abbrev pub row_json : ℕ → List ℕ → Data
-row_json cycles leaves = object_of (count_field (codes "cycles") cycles ∷ record { name = codes "leaves"; value = counts_json leaves } ∷ [])
+row_json cycles leaves = object_of (count_field (codes "cycles") cycles ∷ field (codes "leaves") (counts_json leaves) ∷ [])
 
 -- rows, of which the first has this place in the code, by the counts of the leaves of all
 abbrev pub rows_from : List (List ℕ) → ℕ → List ℕ → List Data
@@ -99,7 +63,7 @@ rows_from leaves place (cycles ∷ rest) = row_json cycles (slice_index_or leave
 
 -- the rows, in their order
 abbrev pub rows_json : List ℕ → List (List ℕ) → Data
-rows_json rows leaves = array (items_of (rows_from leaves 0 rows))
+rows_json rows leaves = list_of (rows_from leaves 0 rows)
 
 -- ---- the run
 
@@ -117,11 +81,11 @@ work_fields work =
 abbrev pub run_fields : RowCode → RunProfile → List Field
 run_fields code profile =
     count_field (codes "cycles") profile.cycles
-    ∷ record { name = codes "end"; value = end_json profile.end }
+    ∷ field (codes "end") (end_json profile.end)
     ∷ (work_fields (work_of code.rows profile.leaves)
     ++ (count_field (codes "copy_cycles") (copy_cycles code.rows profile.rows)
-    ∷ record { name = codes "limits"; value = limits_json code.limits }
-    ∷ record { name = codes "rows"; value = rows_json profile.rows profile.leaves }
+    ∷ field (codes "limits") (limits_json code.limits)
+    ∷ field (codes "rows") (rows_json profile.rows profile.leaves)
     ∷ []))
 
 abbrev pub json_of : RowCode → RunProfile → Data
@@ -129,4 +93,4 @@ json_of code profile = object_of (run_fields code profile)
 
 -- its text, on a line
 abbrev pub json_text : RowCode → RunProfile → List ℕ
-json_text code profile = line (compact_text (json_of code profile))
+json_text code profile = json_line (json_of code profile)

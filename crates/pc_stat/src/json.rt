@@ -1,15 +1,16 @@
 //! What a run cost, as JSON.
-ghost use Rattle.std.specs.Prelude.{◌≡◌, ◌++◌, ◌∷◌, map, slice_index_or, [], IfOk, OnOk, codes, false, string_bytes};
+ghost use Rattle.std.specs.Prelude.{◌≡◌, ◌++◌, ◌∷◌, map, slice_index_or, [], IfOk, OnOk, codes};
 ghost use Rattle.pc_machine.specs.MachineCode.{code_of};
 ghost use Rattle.pc_count.specs.Counts.{profile_of};
 ghost use Rattle.pc_count.specs.Profiles.{IsProfileOf};
 ghost use Rattle.pc_vm.specs.Standing.{end_of};
 ghost use Rattle.serde_json.specs.Data.{put as with_member};
 ghost use Rattle.serde_json.specs.View.{members_view, view};
-ghost use Rattle.serde_json.specs.Written.{compact_text, has_float};
-ghost use Rattle.pc_stat.specs.Json.{counts_json, end_json, fault_json, json_of, json_text, last_json, limits_json, row_json, rows_json, trap_json, whole, with_fields, work_fields};
+ghost use Rattle.pc_json.specs.Json.{limits_json, with_fields};
+ghost use Rattle.pc_stat.specs.Json.{counts_json, end_json, fault_json, json_of, json_text, last_json, row_json, rows_json, trap_json, work_fields};
 
 use pc_count::{CountList, Profile, Work, copy_cycles, work_of};
+use pc_json::{limits_value, line_text, put_count};
 use pc_machine::Code;
 use pc_report::{machine_fault_words, trap_words};
 use pc_vm::Outcome;
@@ -26,17 +27,7 @@ pub fn json_text(alloc: Global, code: &Code, profile: &Profile) -> Result<Vec<u8
     ensures { IfOk result (λ text. text.items ≡ json_text (code_of code.now) (profile_of profile.now)) }
 {
     let value = run_value(alloc, code, profile)?;
-    let mut text = compact(alloc, &value)?;
-    text.push_str("\n")?;
-    Ok(text.into_bytes())
-}
-
-/// The text of a value without floats.
-fn compact(alloc: Global, value: &Value) -> Result<String, AllocError>
-    requires { has_float (view value.now) ≡ false }
-    ensures { IfOk result (λ text. string_bytes text ≡ compact_text (view value.now)) }
-{
-    value.to_string(alloc)
+    line_text(alloc, &value)
 }
 
 /// What a run cost, as a value.
@@ -53,18 +44,6 @@ fn run_value(alloc: Global, code: &Code, profile: &Profile) -> Result<Value, All
     put_limits(alloc, &mut members, code.limits)?;
     put_rows(alloc, &mut members, profile)?;
     Ok(Value::from(members))
-}
-
-/// Puts a count into an object.
-fn put_count(
-    alloc: Global,
-    members: &mut Map<String, Value>,
-    name: &str,
-    count: u64,
-) -> Result<(), AllocError>
-    ensures { OnOk result (members_view members.new.entries ≡ with_member name.now (whole count) (members_view members.old.entries)) }
-{
-    put(members, alloc, name, Value::from(count))
 }
 
 /// Puts how a run ended into an object.
@@ -148,14 +127,6 @@ fn fault_value(alloc: Global, fault: MachineFault) -> Result<Value, AllocError>
     ensures { IfOk result (λ value. view value ≡ fault_json fault) }
 {
     json!(in alloc; {"kind": "fault", "fault": machine_fault_words(fault)})
-}
-
-/// The limits of rows.
-fn limits_value(alloc: Global, limits: Limits) -> Result<Value, AllocError>
-    ensures { IfOk result (λ value. view value ≡ limits_json limits) }
-{
-    let Limits { ops, tests, mem } = limits;
-    json!(in alloc; {"items": ops, "tests": tests, "loads_and_stores": mem})
 }
 
 /// Each row with its counts.

@@ -1,6 +1,6 @@
 use Rattle.std.proofs.Common.{◌≡◌, map, take}
 use Rattle.serde_json.specs.View.{view}
-use Rattle.pc_stat.specs.Json.{whole}
+use Rattle.pc_json.specs.Json.{whole}
 use Rattle.pc_stat.proofs.json.counts_value.Given as goal
 
 -- the counts so far are in the list
