@@ -4,3 +4,7 @@ pub mod InTurn
 pub mod Writable
 pub mod Chosen
 pub mod Told
+pub mod EachState
+pub mod Shown
+pub mod Whole
+pub mod GraphNodes

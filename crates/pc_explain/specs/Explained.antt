@@ -13,6 +13,7 @@ use Rattle.pc_pattern.specs.Pattern.{rules_for, IsFound}
 use Rattle.pc_told.specs.declared.telling.Told.{Told}
 use Rattle.pc_told.specs.Tellings.{Telling, tellings_in}
 use Rattle.pc_told.specs.ToldRows.{AreTold}
+use Rattle.pc_waiting.specs.declared.obstacle.Waiting.{Waiting}
 use Rattle.pc_object.specs.declared.object.Note.{Note}
 use Rattle.pc_object.specs.ObjectText.{IsChoice}
 use Rattle.pc_emit.specs.Emitted.{RegionForm}
@@ -25,10 +26,11 @@ use Rattle.pc_explain.specs.declared.explanation.LoopExplanation.{LoopExplanatio
 
 -- ---- explanations
 
--- the states that a search found for the header of a loop, and what is told of the row of each
+-- the states that a search found for the header of a loop, what is told of the row of each, and what waits there
 pub record LoopSchedule : Type 0 where
   pub states : List AutomatonState
   pub tellings : List Telling
+  pub waits : List (List Waiting)
 
 -- what is explained of a loop: the region that is its header, its note, and its schedule, where its form has one
 pub record Explanation : Type 0 where
@@ -38,7 +40,7 @@ pub record Explanation : Type 0 where
 
 -- the schedule in memory
 abbrev pub schedule_in : Told → LoopSchedule
-schedule_in told = record { states = states_in told.automaton; tellings = tellings_in told.rows }
+schedule_in told = record { states = states_in told.automaton; tellings = tellings_in told.rows; waits = told.waiting }
 
 -- the explanation in memory
 abbrev pub explanation_in : LoopExplanation → Explanation
@@ -60,7 +62,7 @@ search_extent extent Plain = None
 -- a schedule is what a search of this extent finds for a region, and what is told of it
 pub record IsScheduleOf (table : Table) (limits : Limits) (extent : Extent) (region : ℕ) (schedule : LoopSchedule) : Type 0 where
   pub found : IsFound (rules_for table limits extent.window) region extent.rows schedule.states
-  pub told : AreTold (rules_for table limits extent.window) region extent.rows schedule.states schedule.tellings
+  pub told : AreTold (rules_for table limits extent.window) region extent.rows schedule.states schedule.tellings schedule.waits
 
 -- there is a schedule where there is a search, and it is this search's
 abbrev pub IsScheduleFor : Table → Limits → (region : ℕ) → Option Extent → Option LoopSchedule → Type 0

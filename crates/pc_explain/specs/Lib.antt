@@ -2,4 +2,8 @@ pub mod models
 pub mod Explained
 pub mod Words
 pub mod Text
+pub mod EachState
+pub mod Graph
+pub mod GraphLaws
+pub mod Json
 pub mod Laws

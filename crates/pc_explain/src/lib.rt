@@ -2,10 +2,16 @@
 //! state, with the iteration of each item and test and the line of the source that it comes from.
 #![tactic(auto)]
 
+mod cells;
 mod counts;
 mod drawing;
+mod edges;
 mod explaining;
 mod explanation;
+mod graph;
+mod graph_laws;
+mod json;
+mod json_row;
 mod laws;
 mod leaves;
 mod searching;
@@ -14,6 +20,9 @@ mod words;
 
 pub use explaining::explain_loops;
 pub use explanation::LoopExplanation;
+pub use graph::explanation_graph;
+pub use graph_laws::law_of_graphs;
+pub use json::explanation_json;
 pub use laws::law_of_explained_loops;
 use pc_word::Seq;
 pub use text::explanation_text;

@@ -179,7 +179,7 @@ fn push_state(
 }
 
 /// Appends the first line of a state to a text.
-fn push_heading(
+pub(crate) fn push_heading(
     text: &mut String,
     limits: Limits,
     number: u32,

@@ -11,18 +11,29 @@ use Rattle.pc_object.specs.ObjectText.{CodeWithNotes}
 use Rattle.pc_compile.specs.declared.choice.Choice.{Choice}
 use Rattle.pc_compile.specs.Compiled.{IsCompiled}
 use Rattle.pc_outside.specs.Shelf.{Files}
+use Rattle.pc_command.specs.declared.explain.ExplainMode.{ExplainMode}
+use Rattle.pc_command.specs.declared.explain.ExplainMode.TheVariants as form
 use Rattle.pc_command.specs.Requests.{ExplainRequest}
+use Rattle.pc_word.specs.declared.item.Limits.{Limits}
 use Rattle.pc_source.specs.Files.{HasSource}
 use Rattle.pc_source.specs.Source.{IsSource}
 use Rattle.pc_explain.specs.Explained.{Explanation, AreExplained}
+use Rattle.pc_explain.specs.Graph.{explanation_graph}
+use Rattle.pc_explain.specs.Json.{explanation_json}
 use Rattle.pc_explain.specs.Text.{explanation_text}
 
--- the text tells what is explained of the innermost loops that are asked for, where this was chosen for the regions of a table, and the
--- nodes of its flow graph come from these lines
+-- explanations in the form that is asked for: lines, a graph, or JSON
+abbrev pub told_as : ExplainMode → Limits → (lines : List ℕ) → (asked : Option ℕ) → List Explanation → List ℕ
+told_as form.Text = explanation_text
+told_as form.Dot = explanation_graph
+told_as form.Json = explanation_json
+
+-- the text tells, in the form that is asked for, what is explained of the innermost loops that are asked for, where this was chosen for the
+-- regions of a table, and the nodes of its flow graph come from these lines
 pub record ExplainsLoops (request : ExplainRequest) (table : Table) (choices : List Choice) (lines text : List ℕ) : Type 0 where
   pub explanations : List Explanation
   pub of_choices : AreExplained table request.limits request.extent request.line choices explanations
-  pub told : text ≡ explanation_text request.limits lines request.line explanations
+  pub told : text ≡ told_as request.mode request.limits lines request.line explanations
 
 -- The program is compiled under the limits and within the extent that are asked for, over some graph that the passes made of its own, as
 -- `Passed` says: these are the graph's regions, and this was chosen for them. The text explains the program's loops.

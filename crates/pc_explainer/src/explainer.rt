@@ -19,13 +19,13 @@ use std::alloc::Global;
 
 /// The whole explainer, over the outside that is lent, and the status that it ends with. `words` are those of the
 /// command line without the explainer's own name:
-/// `SRC [--ops N] [--tests N] [--mem N] [--window N] [--rows N] [--loop LINE]`; `passes` are applied to the flow graph of
-/// the source's program, once each and in order.
+/// `SRC [--ops N] [--tests N] [--mem N] [--window N] [--rows N] [--loop LINE] [--dot | --json]`; `passes` are applied to the
+/// flow graph of the source's program, once each and in order.
 ///
 /// It reads the source at SRC, or makes the sample of a SRC such as `@7`, and compiles it as the compiler does with the
 /// same words, but writes nothing. Then it sends to the output what the compiler found for each innermost loop, or for
-/// those whose keyword stands at LINE alone: the form that it got and what decided it, and the rows of its schedule. The
-/// statuses are
+/// those whose keyword stands at LINE alone: the form that it got and what decided it, and the rows of its schedule; as
+/// lines, with `--dot` as a graph, with `--json` for other programs. The statuses are
 ///
 /// - 0: the text is sent, which is one line where there is no such loop,
 /// - 1: memory ran out; nothing was sent, or the front of the text,

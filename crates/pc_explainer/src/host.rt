@@ -9,7 +9,7 @@ use pc_report::{Speaker, ToolFault};
 use std::process::ExitCode;
 
 /// Runs the explainer with these passes over the flow graph, and gives the status that it ends with.
-pub fn run(rt: &HostRuntime, passes: &mut Vec<Box<dyn Pass>>) -> ExitCode {
+pub fn run<P: Pass>(rt: &HostRuntime, passes: &mut Vec<P>) -> ExitCode {
     ExitCode::from(status_of(rt, passes))
 }
 
@@ -19,7 +19,7 @@ pub fn run_out(rt: &HostRuntime) -> ExitCode {
 }
 
 /// What `explain` answers to the words of the command line.
-fn status_of(rt: &HostRuntime, passes: &mut Vec<Box<dyn Pass>>) -> u8 {
+fn status_of<P: Pass>(rt: &HostRuntime, passes: &mut Vec<P>) -> u8 {
     let Ok(words) = read_words(rt) else {
         return no_memory(rt);
     };

@@ -4,27 +4,30 @@ ghost use Rattle.pc_check.specs.Checks.{resolved_of};
 ghost use Rattle.pc_check.specs.Sizes.{resolved_size};
 ghost use Rattle.pc_command.specs.Requests.{explain_request, source_place};
 ghost use Rattle.pc_compile.specs.Compiled.{IsUncompiled};
-ghost use Rattle.pc_explain.specs.Explained.{HasChosen};
+ghost use Rattle.std.specs.List.{AllByRecursion};
+ghost use Rattle.pc_explain.specs.Explained.{explanations_in, CanBeWritten, HasChosen};
 ghost use Rattle.pc_lines.specs.Lines.{lines_of};
 ghost use Rattle.pc_outside.specs.Shelf.{ReadKeeps};
 ghost use Rattle.pc_pass.specs.Pass.{Chain, EachRose};
 ghost use Rattle.pc_table.specs.StoredTable.{table_of};
 ghost use Rattle.pc_word.specs.Ranges.{AreLimits, IsExtent};
 ghost use Rattle.pc_word.specs.SourceLimits.{most_source};
-ghost use Rattle.pc_explainer.specs.Explanations.{ExplainsLoops, ExplainsProgram};
+ghost use Rattle.pc_explainer.specs.Explanations.{told_as, ExplainsLoops, ExplainsProgram};
 ghost use Rattle.pc_explainer.specs.models.Explaining.{ExplainsSource, ExplainsText, StopsAtProgram, StopsAtSource, StopsAtText};
 
 use pc_check::Checked;
-use pc_command::ExplainCommand;
-use pc_compile::{CompileError, Compiled, compile_with};
-use pc_explain::{explain_loops, explanation_text};
-use pc_lines::lines;
+use pc_command::{ExplainCommand, ExplainMode};
+use pc_compile::{CompileError, Compiled, compile};
+use pc_explain::{
+    LoopExplanation, explain_loops, explanation_graph, explanation_json, explanation_text,
+};
+use pc_lines::{LineList, lines};
 use pc_outside::Shelf;
 use pc_pass::Pass;
 use pc_report::{SourceFault, Speaker, ToolFault};
 use pc_source::{Refusal, SourceError, read_program, read_source};
-use pc_word::OutOfMemory;
-use std::alloc::Global;
+use pc_word::{Limits, OutOfMemory};
+use std::alloc::{AllocError, Global};
 
 /// What explains the source that the command names. An error says what is due where nothing does.
 #[tactic(auto, using(crate::proofs::Sources::sources_due))]
@@ -132,7 +135,7 @@ fn compile_and_explain<P: Pass>(
     ensures named { map P.label passes.new.items ≡ map P.label passes.old.items }
     ensures ran { OnOk result (EachRose (map P.runs passes.old.items) (map P.runs passes.new.items)) }
 {
-    let compiled = compile_with(alloc, checked, passes, command.limits, command.extent)?;
+    let compiled = compile(alloc, checked, passes, command.limits, command.extent)?;
     let text = explanation_of_compiled(alloc, checked, &compiled, command)?;
     Ok(text)
 }
@@ -154,10 +157,30 @@ fn explanation_of_compiled(
         limits,
         extent,
         line,
+        mode,
         ..
     } = command;
     let choices = compiled.choices.as_slice();
     let loops = explain_loops(alloc, &compiled.table, choices, limits, extent, line)?;
     let lines = lines(alloc, checked)?;
-    Ok(explanation_text(alloc, limits, &lines, line, loops.as_slice())?)
+    Ok(told_as(alloc, mode, limits, &lines, line, loops.as_slice())?)
+}
+
+/// Explanations in the form that is asked for.
+fn told_as(
+    alloc: Global,
+    mode: ExplainMode,
+    limits: Limits,
+    lines: &LineList,
+    line: Option<u32>,
+    loops: &[LoopExplanation],
+) -> Result<Vec<u8>, AllocError>
+    requires { AllByRecursion (CanBeWritten limits) (explanations_in loops.now) }
+    ensures { IfOk result (λ text. text.items ≡ told_as mode limits lines.now line (explanations_in loops.now)) }
+{
+    match mode {
+        ExplainMode::Text => explanation_text(alloc, limits, lines, line, loops),
+        ExplainMode::Dot => explanation_graph(alloc, limits, lines, line, loops),
+        ExplainMode::Json => explanation_json(alloc, limits, lines, line, loops),
+    }
 }
