@@ -1,0 +1,37 @@
+-- The scalars that statements declare, in the order of the text, which is that of their numbers.
+use Rattle.std.specs.Prelude.{ℕ, List, [], ◌∷◌, ◌++◌}
+use Rattle.pc_syntax.specs.Source.{SourceStatement, Scope, ScalarDeclaration, ArrayDeclaration, Assignment, Printing, Evaluation, Branch, WhileLoop}
+use Rattle.pc_syntax.specs.Source.{DoLoop, ForLoop, BreakOut, ContinueOn, ReturnFrom, Nothing, OptionalStatement, Absent, Present, SourceList}
+use Rattle.pc_syntax.specs.Source.{No_more, More}
+
+unfoldable mutual
+  -- the symbols of the scalars declared so far, and behind them those that a statement declares
+  pub with_declared : SourceStatement → List ℕ → List ℕ
+  with_declared (Scope items) symbols = with_list items symbols
+  with_declared (ScalarDeclaration symbol line initial) symbols = symbols ++ symbol ∷ []
+  with_declared (ArrayDeclaration symbol line at length values) symbols = symbols
+  with_declared (Assignment symbol line index bracket op at value) symbols = symbols
+  with_declared (Printing line value) symbols = symbols
+  with_declared (Evaluation line value) symbols = symbols
+  with_declared (Branch line test body otherwise) symbols = with_branch otherwise (with_declared body symbols)
+  with_declared (WhileLoop line test body) symbols = with_declared body symbols
+  with_declared (DoLoop line body test) symbols = with_declared body symbols
+  with_declared (ForLoop line first test step body) symbols = with_declared body (with_branch step (with_list first symbols))
+  with_declared (BreakOut line) symbols = symbols
+  with_declared (ContinueOn line) symbols = symbols
+  with_declared (ReturnFrom line value) symbols = symbols
+  with_declared Nothing symbols = symbols
+
+  -- the same of a statement that may be left out
+  pub with_branch : OptionalStatement → List ℕ → List ℕ
+  with_branch Absent symbols = symbols
+  with_branch (Present statement) symbols = with_declared statement symbols
+
+  -- the same of statements in order
+  pub with_list : SourceList → List ℕ → List ℕ
+  with_list No_more symbols = symbols
+  with_list (More first rest) symbols = with_list rest (with_declared first symbols)
+
+-- the symbols of the scalars that statements declare
+abbrev pub declared_by : SourceList → List ℕ
+declared_by items = with_list items []

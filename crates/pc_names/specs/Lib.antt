@@ -1,0 +1,4 @@
+pub mod models
+pub mod Declarations
+pub mod Spellings
+pub mod Laws
