@@ -1,0 +1,9 @@
+pub mod Frequencies
+pub mod Ways
+pub mod Needs
+pub mod Circles
+pub mod OnWays
+pub mod Paths
+pub mod Done
+pub mod Visits
+pub mod Chains

@@ -1,0 +1,12 @@
+use Rattle.pc_automaton.specs.Automaton.{states_in}
+use Rattle.pc_cycles.specs.Chains.{by_no_link}
+use Rattle.pc_cycles.proofs.Chains.{carry_next, there_round}
+use Rattle.pc_cycles.proofs.chain.are_carried.Goals as goal
+
+pub loop-at-init : goal.loop-at-init
+loop-at-init c = by_no_link
+
+pub loop-at-preserved : goal.loop-at-preserved
+loop-at-preserved c =
+    carry_next (states_in c.args.told.now.automaton) c.args.transitions.now c.args.links.now c.args.parameter c.loop-at.name c.loop-at.at _ _
+    c.loop-at-test.true c.loop-at.invariant (there_round c.args.transitions.now c.loop-at.at _ c.if-is_empty.ensures) (c.carries.ensures c.if-not-carries.false)

@@ -1,0 +1,4 @@
+pub mod models
+pub mod Transitions
+pub mod Chains
+pub mod Cycles

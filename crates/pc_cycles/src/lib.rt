@@ -1,0 +1,31 @@
+//! The cycles of a schedule that was told: which states lead round to one another, how many iterations of the loop go by once around,
+//! how many rows what stands there needs at least, of what there is too much for fewer, and which items form a chain round it, each of
+//! which has to wait for the one before.
+#![tactic(auto)]
+
+mod along;
+mod chain;
+mod cycle;
+mod frequency;
+mod path;
+mod recurrence;
+mod resource;
+mod rows;
+mod transition;
+mod walk;
+
+pub use chain::{Chain, Link};
+pub use cycle::Cycle;
+use pc_word::Seq;
+pub use rows::item_origin;
+pub use transition::Transition;
+pub use walk::cycles;
+
+/// Transitions, in the order in which they are taken.
+pub type TransitionList = Seq<Transition>;
+
+/// Links, in the order of the rows.
+pub type LinkList = Seq<Link>;
+
+/// Cycles, in the order in which a walk closes them.
+pub type CycleList = Seq<Cycle>;

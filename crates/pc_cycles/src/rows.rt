@@ -1,0 +1,226 @@
+//! The path through a row to one of its leaves.
+ghost use Rattle.std.specs.Prelude.{◌≡◌, ◌++◌, ◌<◌, ◌^◌, length, slice_get, OnOk};
+ghost use Rattle.std.specs.Option.{option_copied};
+ghost use Rattle.pc_word.specs.Row.{leaves_of};
+ghost use Rattle.pc_word.specs.StoredRow.{row_in};
+ghost use Rattle.pc_told.specs.Tellings.{telling_in};
+ghost use Rattle.pc_cycles.specs.Transitions.{leaf_to, led_to, items_to, tests_to, origins_to, item_origin_to};
+
+use pc_automaton::{AutomatonLeaf, OperandList};
+use pc_told::ToldRow;
+use pc_word::{Item, RowTree, Seq};
+use std::alloc::AllocError;
+
+/// How many leaves a row has.
+pub(crate) fn leaf_count(row: &RowTree<AutomatonLeaf>) -> u32
+    requires { length (leaves_of (row_in (λ leaf. leaf) row.now)) < 2 ^ 32 }
+    ensures { result ≡ length (leaves_of (row_in (λ leaf. leaf) row.now)) }
+{
+    match row {
+        RowTree::Step { next, .. } => leaf_count(next),
+        RowTree::Test { yes, no, .. } => leaf_count(yes) + leaf_count(no),
+        RowTree::Leaf { .. } => 1,
+    }
+}
+
+/// A leaf, by its number, if it is there.
+pub(crate) fn leaf_at(row: &RowTree<AutomatonLeaf>, leaf: u32) -> Option<&AutomatonLeaf>
+    requires { length (leaves_of (row_in (λ leaf. leaf) row.now)) < 2 ^ 32 }
+    ensures { option_copied result ≡ leaf_to (row_in (λ leaf. leaf) row.now) leaf }
+{
+    match row {
+        RowTree::Step { next, .. } => leaf_at(next, leaf),
+        RowTree::Test { yes, no, .. } => {
+            let on_yes = leaf_count(yes);
+            if leaf < on_yes {
+                return leaf_at(yes, leaf);
+            }
+            leaf_at(no, leaf - on_yes)
+        }
+        RowTree::Leaf { leaf: here } => {
+            if leaf != 0 {
+                return None;
+            }
+            Some(here)
+        }
+    }
+}
+
+/// The item with this number among those on the path to a leaf, counted from 0, if there are so many.
+pub(crate) fn item_at(row: &RowTree<AutomatonLeaf>, leaf: u32, number: u32) -> Option<Item>
+    requires { length (leaves_of (row_in (λ leaf. leaf) row.now)) < 2 ^ 32 }
+    ensures { result ≡ slice_get (items_to (row_in (λ leaf. leaf) row.now) leaf) number }
+{
+    match row {
+        RowTree::Step { item, next } => {
+            if number == 0 {
+                return Some(*item);
+            }
+            item_at(next, leaf, number - 1)
+        }
+        RowTree::Test { yes, no, .. } => {
+            let on_yes = leaf_count(yes);
+            if leaf < on_yes {
+                return item_at(yes, leaf, number);
+            }
+            item_at(no, leaf - on_yes, number)
+        }
+        RowTree::Leaf { .. } => None,
+    }
+}
+
+/// The state to which a leaf leads, by its number, if it is there and leads to one.
+pub(crate) fn led_to(row: &RowTree<AutomatonLeaf>, leaf: u32) -> Option<u32>
+    requires { length (leaves_of (row_in (λ leaf. leaf) row.now)) < 2 ^ 32 }
+    ensures { result ≡ led_to (leaf_to (row_in (λ leaf. leaf) row.now) leaf) }
+{
+    match leaf_at(row, leaf) {
+        Some(leaf) => target(leaf),
+        None => None,
+    }
+}
+
+/// The state to which a leaf leads, if it leads to one.
+fn target(leaf: &AutomatonLeaf) -> Option<u32>
+    ensures { result ≡ led_to (Some leaf.now) }
+{
+    match leaf {
+        AutomatonLeaf::To { state, .. } => Some(*state),
+        AutomatonLeaf::Out { .. } => None,
+        AutomatonLeaf::Stop => None,
+        AutomatonLeaf::Trap { .. } => None,
+    }
+}
+
+/// Appends the items on the path to a leaf.
+pub(crate) fn push_items(
+    row: &RowTree<AutomatonLeaf>,
+    leaf: u32,
+    items: &mut Seq<Item>,
+) -> Result<(), AllocError>
+    requires { length (leaves_of (row_in (λ leaf. leaf) row.now)) < 2 ^ 32 }
+    ensures { OnOk result (items.new ≡ items.old ++ items_to (row_in (λ leaf. leaf) row.now) leaf) }
+{
+    match row {
+        RowTree::Step { item, next } => {
+            items.push(*item)?;
+            push_items(next, leaf, items)
+        }
+        RowTree::Test { yes, no, .. } => {
+            let on_yes = leaf_count(yes);
+            if leaf < on_yes {
+                return push_items(yes, leaf, items);
+            }
+            push_items(no, leaf - on_yes, items)
+        }
+        RowTree::Leaf { .. } => Ok(()),
+    }
+}
+
+/// Appends the operands of the tests on it.
+pub(crate) fn push_tests(
+    row: &RowTree<AutomatonLeaf>,
+    leaf: u32,
+    tests: &mut OperandList,
+) -> Result<(), AllocError>
+    requires { length (leaves_of (row_in (λ leaf. leaf) row.now)) < 2 ^ 32 }
+    ensures { OnOk result (tests.new ≡ tests.old ++ tests_to (row_in (λ leaf. leaf) row.now) leaf) }
+{
+    match row {
+        RowTree::Step { next, .. } => push_tests(next, leaf, tests),
+        RowTree::Test { on, yes, no } => {
+            tests.push(*on)?;
+            let on_yes = leaf_count(yes);
+            if leaf < on_yes {
+                return push_tests(yes, leaf, tests);
+            }
+            push_tests(no, leaf - on_yes, tests)
+        }
+        RowTree::Leaf { .. } => Ok(()),
+    }
+}
+
+/// Appends the origins that are told of both.
+pub(crate) fn push_origins(
+    row: &RowTree<AutomatonLeaf>,
+    told: &ToldRow,
+    leaf: u32,
+    origins: &mut Seq<u32>,
+) -> Result<(), AllocError>
+    requires { length (leaves_of (row_in (λ leaf. leaf) row.now)) < 2 ^ 32 }
+    ensures { OnOk result (origins.new ≡ origins.old ++ origins_to (row_in (λ leaf. leaf) row.now) (telling_in told.now) leaf) }
+{
+    match (row, told) {
+        (
+            RowTree::Step { next, .. },
+            ToldRow::Step {
+                origin,
+                next: below,
+                ..
+            },
+        ) => {
+            origins.push(*origin)?;
+            push_origins(next, below, leaf, origins)
+        }
+        (
+            RowTree::Test { yes, no, .. },
+            ToldRow::Test {
+                origin,
+                yes: one,
+                no: other,
+                ..
+            },
+        ) => {
+            origins.push(*origin)?;
+            let on_yes = leaf_count(yes);
+            if leaf < on_yes {
+                return push_origins(yes, one, leaf, origins);
+            }
+            push_origins(no, other, leaf - on_yes, origins)
+        }
+        _ => Ok(()),
+    }
+}
+
+/// The origin that is told of the item with this number among those on the path to a leaf, counted from 0, if there are so many and
+/// the told row has the shape of the row.
+pub fn item_origin(
+    row: &RowTree<AutomatonLeaf>,
+    told: &ToldRow,
+    leaf: u32,
+    number: u32,
+) -> Option<u32>
+    requires { length (leaves_of (row_in (λ leaf. leaf) row.now)) < 2 ^ 32 }
+    ensures { result ≡ item_origin_to (row_in (λ leaf. leaf) row.now) (telling_in told.now) leaf number }
+{
+    match (row, told) {
+        (
+            RowTree::Step { next, .. },
+            ToldRow::Step {
+                origin,
+                next: below,
+                ..
+            },
+        ) => {
+            if number == 0 {
+                return Some(*origin);
+            }
+            item_origin(next, below, leaf, number - 1)
+        }
+        (
+            RowTree::Test { yes, no, .. },
+            ToldRow::Test {
+                yes: one,
+                no: other,
+                ..
+            },
+        ) => {
+            let on_yes = leaf_count(yes);
+            if leaf < on_yes {
+                return item_origin(yes, one, leaf, number);
+            }
+            item_origin(no, other, leaf - on_yes, number)
+        }
+        _ => None,
+    }
+}
