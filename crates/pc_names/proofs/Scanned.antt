@@ -1,5 +1,6 @@
 -- What the search for the names of a text keeps: the names so far, and those of what is left, are those of the text.
-use Rattle.std.proofs.Common.{◌≡◌, ℕ, zero, suc, ◌+◌, ◌-◌, ◌<◌, ◌≤◌, List, [], ◌∷◌, ◌++◌, Bool, true, false, ◌&&◌, ◌||◌, cond, not, nat_lt, Option, Some, None, Result, Ok, Err, take, drop, length, get_or, refl, sym, ap, ◌∙◌}
+use Rattle.std.proofs.Common.{◌≡◌, ℕ, zero, suc, ◌+◌, ◌-◌, ◌<◌, ◌≤◌, List, [], ◌∷◌, ◌++◌, Bool, true, false, ◌&&◌, ◌||◌, cond, not, nat_lt}
+use Rattle.std.proofs.Common.{Option, Some, None, Result, Ok, Err, take, drop, length, get_or, refl, sym, ap, ◌∙◌}
 use Rattle.std.proofs.Common.{subst, append_assoc, arith, map}
 use Rattle.std.specs.Prelude.{◌==◌, bytes_eq, is_some}
 use Rattle.std.specs.Borrow.{Bor}

@@ -1,5 +1,6 @@
 -- A stretch of a text is its piece, but for marks, of which it is the first byte.
-use Rattle.std.proofs.Common.{◌≡◌, ℕ, suc, ◌+◌, ◌-◌, ◌<◌, List, [], ◌∷◌, ◌++◌, Bool, true, false, ◌&&◌, ◌||◌, cond, not, nat_eq, Option, Some, None, Result, Ok, Err, take, drop, length, get_or, refl, sym, ap, ◌∙◌}
+use Rattle.std.proofs.Common.{◌≡◌, ℕ, suc, ◌+◌, ◌-◌, ◌<◌, List, [], ◌∷◌, ◌++◌, Bool, true, false, ◌&&◌, ◌||◌, cond, not, nat_eq, Option}
+use Rattle.std.proofs.Common.{Some, None, Result, Ok, Err, take, drop, length, get_or, refl, sym, ap, ◌∙◌}
 use Rattle.std.proofs.Common.{subst, arith}
 use Rattle.std.specs.Prelude.{codes, ◌==◌, IfOk, bytes_eq, unwrap_or}
 use Rattle.std.specs.List.{list_all, prefix_len, starts_with}
