@@ -1,6 +1,6 @@
 //! Texts, their tokens and their faults.
 
-use pc_lexer::{Keyword, LexError, Mark, Token, TokenKind, TokenList, tokens};
+use pc_lexer::{Keyword, LexError, Mark, Token, TokenKind, TokenList, lex, tokens};
 use pc_word::{MOST_SOURCE, MOST_TOKENS};
 use std::alloc::Global;
 use std::test::Fail;
@@ -190,6 +190,12 @@ static FAULTS: [(&[u8], LexError); 20] = [
     (b"08 $ /*", LexError::BadLiteral { line: 1 }),
 ];
 
+/// A text, and the names that it uses, each once, in the order of first use.
+static NAMED: (&[u8], [&[u8]; 3]) = (
+    b"int main(void){int sum = 0; int a[2]; /* b */ a[0] = sum; return print(sum + x1);}",
+    [b"sum", b"a", b"x1"],
+);
+
 /// What stands after as many tokens as there may be, and the fault of the text then.
 static ENDS: [(&[u8], Option<LexError>); 5] = [
     (b" \n/* a */ // b\n#include <c>\n\t", None),
@@ -200,7 +206,7 @@ static ENDS: [(&[u8], Option<LexError>); 5] = [
 ];
 
 /// The tokens of a text. `Memory` stands for a text that is too long.
-fn lex(alloc: Global, text: &[u8]) -> Result<TokenList, LexError> {
+fn tokens_of(alloc: Global, text: &[u8]) -> Result<TokenList, LexError> {
     if text.len() > MOST_SOURCE {
         return Err(LexError::Memory);
     }
@@ -209,7 +215,7 @@ fn lex(alloc: Global, text: &[u8]) -> Result<TokenList, LexError> {
 
 /// Whether a text is one token of this kind.
 fn is_one(alloc: Global, text: &[u8], kind: TokenKind) -> bool {
-    match lex(alloc, text) {
+    match tokens_of(alloc, text) {
         Ok(found) => found.as_slice() == [Token { kind, line: 1 }].as_slice(),
         Err(_) => false,
     }
@@ -217,7 +223,7 @@ fn is_one(alloc: Global, text: &[u8], kind: TokenKind) -> bool {
 
 /// The fault of a text, if it has one.
 fn fault_of(alloc: Global, text: &[u8]) -> Option<LexError> {
-    match lex(alloc, text) {
+    match tokens_of(alloc, text) {
         Ok(_) => None,
         Err(fault) => Some(fault),
     }
@@ -256,13 +262,31 @@ fn single_tokens(rt: HostRuntime) {
 #[test]
 fn texts(rt: HostRuntime) -> Result<(), Fail> {
     for (text, spaced, lines) in TEXTS.iter() {
-        let found = lex(rt.alloc(), text)?;
-        let other = lex(rt.alloc(), spaced)?;
+        let found = tokens_of(rt.alloc(), text)?;
+        let other = tokens_of(rt.alloc(), spaced)?;
         assert!(rt; are_alike(found.as_slice(), other.as_slice(), lines));
     }
-    let found = lex(rt.alloc(), b"b a\nb")?;
+    let found = tokens_of(rt.alloc(), b"b a\nb")?;
     assert!(rt; found.as_slice() == NAMES.as_slice());
     Ok(())
+}
+
+/// Whether these are the names of a text.
+fn has_names(alloc: Global, text: &[u8], names: &[&[u8]]) -> bool {
+    if text.len() > MOST_SOURCE {
+        return false;
+    }
+    match lex(alloc, text) {
+        Ok(found) => found.names.as_slice() == names,
+        Err(_) => false,
+    }
+}
+
+#[test]
+fn names(rt: HostRuntime) {
+    let (text, names) = &NAMED;
+    assert!(rt; has_names(rt.alloc(), text, names.as_slice()));
+    assert!(rt; has_names(rt.alloc(), b"1 + 1", [].as_slice()));
 }
 
 #[test]

@@ -6,12 +6,13 @@ use Rattle.std.specs.List.{list_any, list_all, position_or_len}
 use Rattle.std.specs.Cmp.Lexicographic.{same_text}
 use Rattle.std.proofs.lemmas.List.{append-nil, length-map, length-append}
 use Rattle.std.proofs.Math.Numerals.{one-add}
+use Rattle.std.proofs.lemmas.Option.{slice_get_within}
 use Rattle.std.proofs.lemmas.Cmp.{nat_list_eq_equiv}
 use Rattle.pc_lexer.specs.Spelling.{keyword_of}
 use Rattle.pc_lexer.specs.Cut.{Cut, Done, Next, Stuck, line_behind, pieces_of}
 use Rattle.pc_word.specs.SourceLimits.{most_tokens}
-use Rattle.pc_lexer.specs.Tokens.{kind_of, names_after_piece, word_kind, names_after_word, symbol_of, names_with, token_before, read}
-use Rattle.pc_lexer.specs.Laws.{name_before, names_in, symbols_in, AreInOrder, SameWhereAlike, NumbersNames}
+use Rattle.pc_lexer.specs.Tokens.{kind_of, names_after_piece, word_kind, names_after_word, symbol_of, names_with, token_before, read, names_after_cut, names_of_text}
+use Rattle.pc_lexer.specs.Laws.{name_before, names_in, symbols_in, AreInOrder, SameWhereAlike, NumbersNames, SpellsNames}
 use Rattle.pc_lexer.specs.declared.keyword.Keyword.{Keyword}
 use Rattle.pc_lexer.specs.declared.piece.Shape.TheVariants as shape
 use Rattle.pc_lexer.specs.declared.token.Token.{Token}
@@ -82,9 +83,8 @@ place_passes p (x ∷ xs) h = by (p x) refl h (place_passes p xs)
     by true e h rest = e
     by false e h rest = rw one-add (rest h)
 
--- what the symbols of tokens are, read where `names` were used
-pub record Numbered (names : List (List ℕ)) (tokens : List Token) (used : List (List ℕ)) : Type 0 where
-  pub all : List (List ℕ)
+-- what the symbols of tokens are, read where `names` were used, once all names are these
+pub record Numbered (names all : List (List ℕ)) (tokens : List Token) (used : List (List ℕ)) : Type 0 where
   pub later : List (List ℕ)
   pub extends : all ≡ names ++ later
   pub symbols : symbols_in tokens ≡ map (symbol_of all) used
@@ -95,37 +95,35 @@ same_name : (name : List ℕ) → bytes_eq name name ≡ true
 same_name name = nat_list_eq_equiv.refl name
 
 -- one more name before others
-name_numbered : (names : List (List ℕ)) (name : List ℕ) (tokens : List Token) (line : ℕ) (used : List (List ℕ)) → Numbered (names_with names name) tokens used
-    → Numbered names (record { kind = kind.Name (symbol_of names name); line = line } ∷ tokens) (name ∷ used)
-name_numbered names name tokens line used n = by (list_any (bytes_eq name) names) refl n
+name_numbered : (names all : List (List ℕ)) (name : List ℕ) (tokens : List Token) (line : ℕ) (used : List (List ℕ)) → Numbered (names_with names name) all tokens used
+    → Numbered names all (record { kind = kind.Name (symbol_of names name); line = line } ∷ tokens) (name ∷ used)
+name_numbered names all name tokens line used n = by (list_any (bytes_eq name) names) refl n
   where
-    by : (t : Bool) → list_any (bytes_eq name) names ≡ t → Numbered (cond t names (names ++ name ∷ [])) tokens used
-        → Numbered names (record { kind = kind.Name (symbol_of names name); line = line } ∷ tokens) (name ∷ used)
+    by : (t : Bool) → list_any (bytes_eq name) names ≡ t → Numbered (cond t names (names ++ name ∷ [])) all tokens used
+        → Numbered names all (record { kind = kind.Name (symbol_of names name); line = line } ∷ tokens) (name ∷ used)
     by true e n =
         let within : symbol_of names name < length names = place_within (bytes_eq name) names e in
-        let same : symbol_of n.all name ≡ symbol_of names name = ap (λ l. symbol_of l name) n.extends ∙ place_kept (bytes_eq name) names n.later e in
+        let same : symbol_of all name ≡ symbol_of names name = ap (λ l. symbol_of l name) n.extends ∙ place_kept (bytes_eq name) names n.later e in
         let most : length names ≡ max (length names) (symbol_of names name + 1) = omega arith in
         record {
-          all = n.all;
           later = n.later;
           extends = n.extends;
           symbols = λ i. sym same i ∷ n.symbols i;
-          present = and_made (list_any (bytes_eq name) n.all) _ (ap (list_any (bytes_eq name)) n.extends ∙ any_kept (bytes_eq name) names n.later e) n.present;
+          present = and_made (list_any (bytes_eq name) all) _ (ap (list_any (bytes_eq name)) n.extends ∙ any_kept (bytes_eq name) names n.later e) n.present;
           order = (omega arith, subst (λ m. AreInOrder m (symbols_in tokens)) most n.order);
         }
     by false e n =
         let new : symbol_of names name ≡ length names = place_new (bytes_eq name) names e in
         let there : list_any (bytes_eq name) (names ++ name ∷ []) ≡ true = any_pushed (bytes_eq name) names name (same_name name) in
-        let same : symbol_of n.all name ≡ symbol_of names name =
+        let same : symbol_of all name ≡ symbol_of names name =
         ap (λ l. symbol_of l name) n.extends ∙ place_kept (bytes_eq name) (names ++ name ∷ []) n.later there
         ∙ place_pushed (bytes_eq name) names name e (same_name name) ∙ sym new in
         let most : length (names ++ name ∷ []) ≡ max (length names) (symbol_of names name + 1) = omega (arith, length-append names (name ∷ [])) in
         record {
-          all = n.all;
           later = name ∷ n.later;
           extends = n.extends ∙ append_assoc names (name ∷ []) n.later;
           symbols = λ i. sym same i ∷ n.symbols i;
-          present = and_made (list_any (bytes_eq name) n.all) _ (ap (list_any (bytes_eq name)) n.extends ∙ any_kept (bytes_eq name) (names ++ name ∷ []) n.later there) n.present;
+          present = and_made (list_any (bytes_eq name) all) _ (ap (list_any (bytes_eq name)) n.extends ∙ any_kept (bytes_eq name) (names ++ name ∷ []) n.later there) n.present;
           order = (omega arith, subst (λ m. AreInOrder m (symbols_in tokens)) most n.order);
         }
 
@@ -141,42 +139,42 @@ token_first count token r tokens full never h = by (nat_lt count most_tokens) r 
     by false r h = absurd (never tokens h)
 
 -- the reading of a cut numbers its names
-pub numbered : (c : Cut) (count : ℕ) (names : List (List ℕ)) (tokens : List Token) → read count names c ≡ Ok tokens → Numbered names tokens (names_in c)
-unfolding read kind_of names_after_piece
+pub numbered : (c : Cut) (count : ℕ) (names : List (List ℕ)) (tokens : List Token) → read count names c ≡ Ok tokens → Numbered names (names_after_cut names c) tokens (names_in c)
+unfolding read kind_of names_after_piece names_after_cut
 numbered Done count names tokens h =
     let none : [] ≡ tokens = cc in
-    subst (λ l. Numbered names l []) none (record { all = names; later = []; extends = sym (append-nil names); symbols = refl; present = refl; order = tt })
+    subst (λ l. Numbered names names l []) none (record { later = []; extends = sym (append-nil names); symbols = refl; present = refl; order = tt })
 numbered (Stuck before rest why) count names tokens h = cc
 numbered (Next before spelling shape.Blank others) count names tokens h = numbered others count names tokens h
 numbered (Next before spelling shape.Comment others) count names tokens h = numbered others count names tokens h
 numbered (Next before spelling shape.Skipped others) count names tokens h = numbered others count names tokens h
 numbered (Next before spelling (shape.Number value) others) count names tokens h =
     let f = token_first count _ _ tokens _ (λ tokens h. cc) h in
-    subst (λ l. Numbered names l (names_in others)) f.2 (passed_on (numbered others (count + 1) names f.0 f.1))
+    subst (λ l. Numbered names (names_after_cut names others) l (names_in others)) f.2 (passed_on (numbered others (count + 1) names f.0 f.1))
   where
-    passed_on : {rest : List Token} → Numbered names rest (names_in others) → Numbered names (record { kind = kind.Number value; line = line_behind before } ∷ rest) (names_in others)
-    passed_on n = record { all = n.all; later = n.later; extends = n.extends; symbols = n.symbols; present = n.present; order = n.order }
+    passed_on : {rest : List Token} → Numbered names (names_after_cut names others) rest (names_in others) → Numbered names (names_after_cut names others) (record { kind = kind.Number value; line = line_behind before } ∷ rest) (names_in others)
+    passed_on n = record { later = n.later; extends = n.extends; symbols = n.symbols; present = n.present; order = n.order }
 numbered (Next before spelling (shape.Mark mark) others) count names tokens h =
     let f = token_first count _ _ tokens _ (λ tokens h. cc) h in
-    subst (λ l. Numbered names l (names_in others)) f.2 (passed_on (numbered others (count + 1) names f.0 f.1))
+    subst (λ l. Numbered names (names_after_cut names others) l (names_in others)) f.2 (passed_on (numbered others (count + 1) names f.0 f.1))
   where
-    passed_on : {rest : List Token} → Numbered names rest (names_in others) → Numbered names (record { kind = kind.Mark mark; line = line_behind before } ∷ rest) (names_in others)
-    passed_on n = record { all = n.all; later = n.later; extends = n.extends; symbols = n.symbols; present = n.present; order = n.order }
+    passed_on : {rest : List Token} → Numbered names (names_after_cut names others) rest (names_in others) → Numbered names (names_after_cut names others) (record { kind = kind.Mark mark; line = line_behind before } ∷ rest) (names_in others)
+    passed_on n = record { later = n.later; extends = n.extends; symbols = n.symbols; present = n.present; order = n.order }
 numbered (Next before spelling shape.Word others) count names tokens h = by (keyword_of spelling) h (λ names rest h. numbered others (count + 1) names rest h)
   where
     by : (k : Option Keyword)
         → cond (nat_lt count most_tokens)
         (token_before (record { kind = word_kind names spelling k; line = line_behind before }) (read (count + 1) (names_after_word names spelling k) others))
         (Err error.TooManyTokens) ≡ Ok tokens
-        → ((names : List (List ℕ)) (rest : List Token) → read (count + 1) names others ≡ Ok rest → Numbered names rest (names_in others))
-        → Numbered names tokens (name_before spelling k (names_in others))
+        → ((names : List (List ℕ)) (rest : List Token) → read (count + 1) names others ≡ Ok rest → Numbered names (names_after_cut names others) rest (names_in others))
+        → Numbered names (names_after_cut (names_after_word names spelling k) others) tokens (name_before spelling k (names_in others))
     by (Some key) h more =
         let f = token_first count _ _ tokens _ (λ tokens h. cc) h in
         let n = more names f.0 f.1 in
-        subst (λ l. Numbered names l (names_in others)) f.2 (record { all = n.all; later = n.later; extends = n.extends; symbols = n.symbols; present = n.present; order = n.order })
+        subst (λ l. Numbered names (names_after_cut names others) l (names_in others)) f.2 (record { later = n.later; extends = n.extends; symbols = n.symbols; present = n.present; order = n.order })
     by None h more =
         let f = token_first count _ _ tokens _ (λ tokens h. cc) h in
-        subst (λ l. Numbered names l (spelling ∷ names_in others)) f.2 (name_numbered names spelling f.0 (line_behind before) (names_in others) (more (names_with names spelling) f.0 f.1))
+        subst (λ l. Numbered names (names_after_cut (names_with names spelling) others) l (spelling ∷ names_in others)) f.2 (name_numbered names (names_after_cut (names_with names spelling) others) spelling f.0 (line_behind before) (names_in others) (more (names_with names spelling) f.0 f.1))
 
 -- symbols of names that are used are the same where the names are
 slice_get-map : (f : List ℕ → ℕ) (names : List (List ℕ)) (i : ℕ) → i < length names → slice_get (map f names) i ≡ Some (f (get_or names i []))
@@ -217,7 +215,25 @@ same_where_alike all used present i j li lj =
 pub numbers_names : NumbersNames
 numbers_names text tokens h =
     let n = numbered (pieces_of text) 0 [] tokens h in (
-      ap length n.symbols ∙ length-map (names_in (pieces_of text)) (symbol_of n.all),
+      ap length n.symbols ∙ length-map (names_in (pieces_of text)) (symbol_of (names_of_text text)),
       n.order,
-      subst (λ symbols. SameWhereAlike symbols (names_in (pieces_of text))) (sym n.symbols) (same_where_alike n.all (names_in (pieces_of text)) n.present),
+      subst (λ symbols. SameWhereAlike symbols (names_in (pieces_of text))) (sym n.symbols) (same_where_alike (names_of_text text) (names_in (pieces_of text)) n.present),
     )
+
+-- a name that is used stands at the place of its symbol
+stands : (all used : List (List ℕ)) (place symbol : ℕ) → list_all (λ name. list_any (bytes_eq name) all) used ≡ true
+    → slice_get (map (symbol_of all) used) place ≡ Some symbol → slice_get used place ≡ slice_get all symbol
+stands all used place symbol present there =
+    let size = length-map used (symbol_of all) in
+    let inside = slice_get_within (map (symbol_of all) used) place symbol there in
+    let below : place < length used = omega (arith, size, inside) in
+    let name = get_or used place [] in
+    let is : symbol_of all name ≡ symbol = cc (slice_get-map (symbol_of all) used place below, there) in
+    let known = all_at (λ name. list_any (bytes_eq name) all) used place present below in
+    slice_get-at used place below ∙ ap Some (sym (named all name known))
+    ∙ sym (slice_get-at all (symbol_of all name) (place_within (bytes_eq name) all known)) ∙ ap (slice_get all) is
+
+pub spells_names : SpellsNames
+spells_names text tokens h place symbol there =
+    let n = numbered (pieces_of text) 0 [] tokens h in
+    stands (names_of_text text) (names_in (pieces_of text)) place symbol n.present (ap (λ symbols. slice_get symbols place) (sym n.symbols) ∙ there)

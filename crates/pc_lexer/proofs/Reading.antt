@@ -13,7 +13,7 @@ use Rattle.pc_word.proofs.Lists.{count_both}
 use Rattle.pc_lexer.specs.Bytes.{is_blank, line_feeds}
 use Rattle.pc_lexer.specs.Piece.{piece_at}
 use Rattle.pc_lexer.specs.Cut.{Cut, Next, Stuck, cut, fresh_after, line_behind}
-use Rattle.pc_lexer.specs.Tokens.{kind_of, names_after_piece, fault_at, token_before, read, lexed, lex_cause}
+use Rattle.pc_lexer.specs.Tokens.{kind_of, names_after_piece, fault_at, token_before, read, lexed, lex_cause, names_after_cut, names_of_text}
 use Rattle.pc_lexer.specs.models.Steps.{with_token, RefusesToken}
 use Rattle.pc_lexer.specs.declared.piece.Shape.{Shape}
 use Rattle.pc_lexer.specs.declared.piece.Shape.TheVariants as shape
@@ -124,6 +124,7 @@ pub record Reads (text : List ℕ) (found : List Token) (names : List (List ℕ)
   pub line_is : line ≡ line_behind (take offset text)
   pub fresh_is : fresh ≡ fresh_after true (take offset text)
   pub reads : with_front found (read (length found) names (cut_from text offset)) ≡ lexed text
+  pub uses : names_after_cut names (cut_from text offset) ≡ names_of_text text
 
 pub reads_first : (text : List ℕ) (found : List Token) (names : List (List ℕ)) → found ≡ [] → names ≡ [] → Reads text found names 0 1 true
 unfolding with_front fresh_after
@@ -132,6 +133,7 @@ reads_first text found names none unused = record {
   line_is = refl;
   fresh_is = refl;
   reads = (λ i. with_front (none i) (read (length (none i)) (unused i) (cut text 0 []))) ∙ all (lexed text);
+  uses = ap (λ ns. names_after_cut ns (cut text 0 [])) unused;
 }
   where
     all : (r : Result (List Token) LexError) → with_front [] r ≡ r
@@ -145,6 +147,12 @@ reads_last {text} {found} {names} {offset} r past =
     sym r.reads
     ∙ ap (λ rest. with_front found (read (length found) names (cut rest 0 (take offset text)))) (drop_all offset text past)
     ∙ ap Ok (append-nil found)
+
+pub uses_last : {text : List ℕ} {found : List Token} {names : List (List ℕ)} {offset line : ℕ} {fresh : Bool}
+    → Reads text found names offset line fresh → length text ≤ offset → names ≡ names_of_text text
+unfolding names_after_cut cut
+uses_last {text} {found} {names} {offset} r past =
+    sym (ap (λ rest. names_after_cut names (cut rest 0 (take offset text))) (drop_all offset text past)) ∙ r.uses
 
 -- a call's answer to a text that reads so
 abbrev pub Exact : Result (List Token) LexError → Result (List Token) LexError → Type 0
@@ -220,6 +228,11 @@ module _ (text : List ℕ) (found : List Token) (names : List (List ℕ)) (offse
         others : Result (List Token) LexError
         others = read (length found + 1) after (cut_from text (offset + piece.length))
 
+    -- the names from the piece on
+    uses_next : names_after_cut after (cut_from text (offset + piece.length)) ≡ names_of_text text
+    unfolding names_after_cut after
+    uses_next = sym (ap (names_after_cut names) cut_first) ∙ r.uses
+
     -- the loop's next state
     pub reads_kept : (kind : Option TokenKind) → kind_of names (spelled_at text offset piece) piece.shape ≡ kind → IfSome kind (λ _. length found < most_tokens)
         → Reads text (with_token found kind line) (names_after_piece names (spelled_at text offset piece) piece.shape) (offset + piece.length)
@@ -236,6 +249,7 @@ module _ (text : List ℕ) (found : List Token) (names : List (List ℕ)) (offse
               ∙ sym (fresh_after-append true (take offset text) (spelled_at text offset piece))
               ∙ ap (fresh_after true) (sym parts);
           reads = reads_next kind e room;
+          uses = uses_next;
         }
 
     -- one token too many

@@ -6,7 +6,7 @@ use Rattle.pc_lexer.specs.Bytes.{is_blank, is_letter, is_digit, is_word_byte}
 use Rattle.pc_lexer.specs.Spelling.{mark_spelling, marks, keyword_of}
 use Rattle.pc_lexer.specs.Number.{is_exponent, is_sign, number_value}
 use Rattle.pc_lexer.specs.Cut.{Cut, Done, Next, Stuck, pieces_of}
-use Rattle.pc_lexer.specs.Tokens.{lexed}
+use Rattle.pc_lexer.specs.Tokens.{lexed, names_of_text}
 use Rattle.pc_lexer.specs.declared.keyword.Keyword.{Keyword}
 use Rattle.pc_lexer.specs.declared.piece.Shape.{Shape}
 use Rattle.pc_lexer.specs.declared.piece.Shape.TheVariants as shape
@@ -113,3 +113,9 @@ NumbersNames = (text : List ℕ) (tokens : List Token) → lexed text ≡ Ok tok
     (length (symbols_in tokens) ≡ length (names_in (pieces_of text)))
     × AreInOrder 0 (symbols_in tokens)
     × SameWhereAlike (symbols_in tokens) (names_in (pieces_of text))
+
+-- wherever tokens use a symbol, the text spells there the name at the symbol's place
+abbrev pub SpellsNames : Type 0
+SpellsNames =
+    (text : List ℕ) (tokens : List Token) → lexed text ≡ Ok tokens → (place symbol : ℕ) → slice_get (symbols_in tokens) place ≡ Some symbol
+    → slice_get (names_in (pieces_of text)) place ≡ slice_get (names_of_text text) symbol

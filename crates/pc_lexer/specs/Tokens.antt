@@ -79,6 +79,16 @@ read count names (Next before spelling shape others) =
 abbrev pub lexed : List ℕ → Result (List Token) LexError
 lexed text = read 0 [] (pieces_of text)
 
+-- the names used once the pieces of a cut are read
+unfoldable pub names_after_cut : List (List ℕ) → Cut → List (List ℕ)
+names_after_cut names Done = names
+names_after_cut names (Next before spelling shape others) = names_after_cut (names_after_piece names spelling shape) others
+names_after_cut names (Stuck before rest why) = names
+
+-- the names that a text uses, each once, in the order of first use
+abbrev pub names_of_text : List ℕ → List (List ℕ)
+names_of_text text = names_after_cut [] (pieces_of text)
+
 -- an error is its own cause, but for want of memory, which has none
 abbrev pub lex_cause : LexError → Option LexError
 lex_cause error.Memory = None

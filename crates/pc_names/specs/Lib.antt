@@ -1,4 +1,3 @@
-pub mod models
 pub mod Declarations
 pub mod Spellings
 pub mod Laws

@@ -1,4 +1,4 @@
-//! The scalars that a program declares.
+//! The scalars and arrays that a program declares.
 ghost use Rattle.std.specs.Prelude.{◌≡◌, OnOk};
 ghost use Rattle.pc_syntax.specs.Erasure.{statement_of, optional_of, list_of};
 ghost use Rattle.pc_names.specs.Declarations.{with_declared, with_branch, with_list};
@@ -7,15 +7,23 @@ use pc_syntax::{Stmt, StmtList};
 use pc_word::Seq;
 use std::alloc::AllocError;
 
-/// Appends the symbols of the scalars that a statement declares, in the order of the text.
+/// The symbols of the scalars and of the arrays that statements declare, each in the order of the text.
+#[derive(Drop)]
+pub(crate) struct DeclaredSymbols {
+    pub(crate) scalars: Seq<u32>,
+    pub(crate) arrays: Seq<u32>,
+}
+
+/// Appends the symbols of the scalars and of the arrays that a statement declares, in the order of the text.
 #[cycle(push_declared)]
 #[tactic(auto, using(pc_syntax::proofs::ErasureLaws::statement_forms), unfolding(crate::specs::Declarations::with_declared))]
-fn push_declared(symbols: &mut Seq<u32>, statement: &Stmt) -> Result<(), AllocError>
+fn push_declared(symbols: &mut DeclaredSymbols, statement: &Stmt) -> Result<(), AllocError>
     ensures { OnOk result (symbols.new ≡ with_declared (statement_of statement.now) symbols.old) }
 {
     match statement {
         Stmt::Block { items } => push_list(symbols, items),
-        Stmt::Scalar { symbol, .. } => symbols.push(*symbol),
+        Stmt::Scalar { symbol, .. } => symbols.scalars.push(*symbol),
+        Stmt::Array { symbol, .. } => symbols.arrays.push(*symbol),
         Stmt::If { yes, no, .. } => {
             push_declared(symbols, yes)?;
             push_branch(symbols, no)
@@ -31,16 +39,19 @@ fn push_declared(symbols: &mut Seq<u32>, statement: &Stmt) -> Result<(), AllocEr
             push_branch(symbols, step)?;
             push_declared(symbols, body)
         }
-        Stmt::Array { .. } | Stmt::Assign { .. } | Stmt::Print { .. } => Ok(()),
-        Stmt::Eval { .. } | Stmt::Break { .. } | Stmt::Continue { .. } => Ok(()),
-        Stmt::Return { .. } | Stmt::Empty | Stmt::Call { .. } => Ok(()),
+        Stmt::Assign { .. } | Stmt::Print { .. } | Stmt::Eval { .. } => Ok(()),
+        Stmt::Break { .. } | Stmt::Continue { .. } | Stmt::Return { .. } => Ok(()),
+        Stmt::Empty | Stmt::Call { .. } => Ok(()),
     }
 }
 
 /// The same of a statement that may be left out.
 #[cycle(push_declared)]
 #[tactic(auto, using(pc_syntax::proofs::ErasureLaws::statement_forms), unfolding(crate::specs::Declarations::with_declared))]
-fn push_branch(symbols: &mut Seq<u32>, statement: &Option<Box<Stmt>>) -> Result<(), AllocError>
+fn push_branch(
+    symbols: &mut DeclaredSymbols,
+    statement: &Option<Box<Stmt>>,
+) -> Result<(), AllocError>
     ensures { OnOk result (symbols.new ≡ with_branch (optional_of statement.now) symbols.old) }
 {
     match statement {
@@ -52,7 +63,7 @@ fn push_branch(symbols: &mut Seq<u32>, statement: &Option<Box<Stmt>>) -> Result<
 /// The same of statements in order.
 #[cycle(push_declared)]
 #[tactic(auto, using(pc_syntax::proofs::ErasureLaws::statement_forms), unfolding(crate::specs::Declarations::with_declared))]
-pub(crate) fn push_list(symbols: &mut Seq<u32>, items: &StmtList) -> Result<(), AllocError>
+pub(crate) fn push_list(symbols: &mut DeclaredSymbols, items: &StmtList) -> Result<(), AllocError>
     ensures { OnOk result (symbols.new ≡ with_list (list_of items.now) symbols.old) }
 {
     for item in items.as_slice() {

@@ -1,15 +1,10 @@
-//! The names of a program's scalars.
-ghost use Rattle.std.specs.Prelude.{◌≡◌, [], map, Ok, IfOk, unwrap_or, slice_get, string_bytes};
-ghost use Rattle.std.specs.Str.Lossy.{utf8_lossy};
-ghost use Rattle.pc_lexer.specs.Tokens.{lexed};
-ghost use Rattle.pc_lexer.specs.models.Steps.{spellings};
+//! The names of a program's scalars and arrays.
+ghost use Rattle.std.specs.Prelude.{◌≡◌, map, IfOk, slice_get, string_bytes, unwrap_or, []};
 ghost use Rattle.pc_syntax.specs.Erasure.{program_of};
-ghost use Rattle.pc_names.specs.Spellings.{place_of, names_of, text_symbol};
+ghost use Rattle.pc_names.specs.Spellings.{name_bytes, name_of, names_in, names_of, text_symbol};
 
 use crate::NameList;
-use crate::declared::push_list;
-use crate::uses::names_used;
-use pc_lexer::{Token, TokenKind, TokenList};
+use crate::declared::{DeclaredSymbols, push_list};
 use pc_syntax::Program;
 use pc_word::Seq;
 use std::alloc::{AllocError, Global};
@@ -17,69 +12,53 @@ use std::alloc::{AllocError, Global};
 /// The symbols of a text are below this, and each copy of a function adds a multiple of it.
 const SYMBOL_BOUND: u32 = 65_536;
 
-/// Where a symbol first stands among the names of the tokens.
-fn place_of(tokens: &[Token], symbol: u32) -> usize
-    ensures { result ≡ place_of tokens.now symbol }
-{
-    let mut place = 0;
-    for token in tokens {
-        if let TokenKind::Name { symbol: other } = token.kind {
-            if other == symbol {
-                return place;
-            }
-            place += 1;
-        }
-    }
-    place
+/// The names that a source gives to the scalars and arrays of its program. Two of them may have one name.
+#[derive(Debug, Drop)]
+pub struct SourceNames {
+    /// The names of the scalars, by their numbers.
+    pub scalars: NameList,
+    /// The names of the arrays, by their numbers.
+    pub arrays: NameList,
 }
 
-/// How the name of a scalar with this symbol is spelled, by the names that the text uses.
-fn spelled<'a>(tokens: &[Token], used: &[&'a [u8]], symbol: u32) -> &'a [u8]
-    ensures { result.now ≡ unwrap_or (slice_get (spellings used.now) (place_of tokens.now (text_symbol symbol))) [] }
+/// How a symbol of the program is spelled, by the text's names; one that they lack is empty.
+fn spelled<'a>(names: &[&'a [u8]], symbol: u32) -> &'a [u8]
+    ensures { result.now ≡ unwrap_or (slice_get (name_bytes names.now) (text_symbol symbol)) [] }
 {
-    match used.get(place_of(tokens, symbol % SYMBOL_BOUND)) {
+    match names.get((symbol % SYMBOL_BOUND) as usize) {
         Some(name) => *name,
         None => b"",
     }
 }
 
-/// The names of scalars with these symbols.
-fn spelled_names(
-    alloc: Global,
-    tokens: &[Token],
-    used: &[&[u8]],
-    symbols: &[u32],
-) -> Result<NameList, AllocError>
-    ensures { IfOk result (λ names. map string_bytes names ≡ map
-        (λ symbol. utf8_lossy (unwrap_or (slice_get (spellings used.now) (place_of tokens.now (text_symbol symbol))) [])) symbols.now) }
+/// The names that these symbols of the program stand for, as strings.
+fn spelled_names(alloc: Global, names: &[&[u8]], symbols: &[u32]) -> Result<NameList, AllocError>
+    ensures { IfOk result (λ found. map string_bytes found ≡ map (name_of (name_bytes names.now)) symbols.now) }
 {
-    let mut names = NameList::new(alloc);
+    let mut found = NameList::new(alloc);
     for symbol in symbols {
-        let name = String::from_utf8_lossy(alloc, spelled(tokens, used, *symbol))?;
-        names.push(name)?;
+        let name = String::from_utf8_lossy(alloc, spelled(names, *symbol))?;
+        found.push(name)?;
     }
-    Ok(names)
+    Ok(found)
 }
 
-/// The names of the scalars that a program declares, by their numbers, as the text spells them, which is cut into these tokens, and
-/// whose inlined program this is. Two scalars may have one name. It takes time in proportion to the text, and once more for each
-/// scalar in proportion to the tokens.
-pub fn names_of_program(
+/// The names of the scalars and arrays that a program declares, by their numbers. `names` are those of its text, each at the place
+/// of its symbol, as the lexer gives them; the program is the text's, with its calls inlined. It takes time in proportion to the
+/// program and to the names that it gives.
+pub fn source_names(
     alloc: Global,
-    text: &[u8],
-    tokens: &TokenList,
+    names: &[&[u8]],
     program: &Program,
-) -> Result<NameList, AllocError>
-    requires { lexed text.now ≡ Ok tokens.now }
-    ensures { IfOk result (λ names. map string_bytes names ≡ names_of text.now tokens.now (program_of program.now)) }
+) -> Result<SourceNames, AllocError>
+    ensures { IfOk result (λ found. names_in found ≡ names_of (name_bytes names.now) (program_of program.now)) }
 {
-    let used = names_used(alloc, text)?;
-    let mut symbols = Seq::new(alloc);
+    let mut symbols = DeclaredSymbols {
+        scalars: Seq::new(alloc),
+        arrays: Seq::new(alloc),
+    };
     push_list(&mut symbols, &program.items)?;
-    spelled_names(
-        alloc,
-        tokens.as_slice(),
-        used.as_slice(),
-        symbols.as_slice(),
-    )
+    let scalars = spelled_names(alloc, names, symbols.scalars.as_slice())?;
+    let arrays = spelled_names(alloc, names, symbols.arrays.as_slice())?;
+    Ok(SourceNames { scalars, arrays })
 }

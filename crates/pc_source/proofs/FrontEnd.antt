@@ -1,12 +1,12 @@
 -- The faults of a text, from the refusals of the steps that read it.
-use Rattle.std.proofs.Common.{◌≡◌, true, ℕ, ◌≤◌, List, [], ◌∷◌, length, refl, ap, ◌∙◌}
+use Rattle.std.proofs.Common.{◌≡◌, true, ℕ, ◌≤◌, List, [], ◌∷◌, length, refl, sym, ap, ◌∙◌}
 use Rattle.std.specs.Prelude.{Option, Some, None, option_map, slice_get, Result, Ok, Err, IsErrOf}
 use Rattle.pc_word.specs.Exact.{checked, IsRefusal}
 use Rattle.pc_word.specs.SourceLimits.{most_source, most_height}
 use Rattle.pc_lexer.specs.declared.token.Token.{Token}
 use Rattle.pc_lexer.specs.declared.error.LexError.{LexError}
 use Rattle.pc_lexer.specs.declared.error.LexError.TheVariants as lex
-use Rattle.pc_lexer.specs.Tokens.{lexed, lex_cause}
+use Rattle.pc_lexer.specs.Tokens.{lexed, lex_cause, names_of_text}
 use Rattle.pc_syntax.specs.Source.{SourceProgram, ResolvedProgram}
 use Rattle.pc_syntax.specs.Proper.{unit_is_proper}
 use Rattle.pc_syntax.specs.Unit.{TranslationUnit}
@@ -17,6 +17,7 @@ use Rattle.pc_inline.specs.Inlined.{inline_cause}
 use Rattle.pc_syntax.specs.declared.unit.SourceUnit.{SourceUnit}
 use Rattle.pc_parser.specs.declared.unit.ParseError.{ParseError}
 use Rattle.pc_parser.specs.declared.unit.ParseError.TheVariants as parse
+use Rattle.pc_names.specs.Spellings.{ProgramNames, names_of}
 use Rattle.pc_parser.specs.Parse.{IsPlaceOfLine, NothingReadsUnit, NothingReadsUnitWithin}
 use Rattle.pc_check.specs.declared.error.CheckError.{CheckError}
 use Rattle.pc_check.specs.declared.error.CheckError.TheVariants as check
@@ -27,7 +28,7 @@ use Rattle.pc_check.proofs.ExactLaws.{refused-first}
 use Rattle.pc_source.specs.Source.{IsRead}
 use Rattle.pc_source.specs.SourceFaults.{Uncut, Unread, Nested, Uncallable, Faulty, told_of_call}
 use Rattle.pc_source.specs.models.Refusals.{refusal_of, refusal_of_lex, refusal_of_parse, refusal_of_inline, refusal_of_check}
-use Rattle.pc_source.specs.Reading.{IsChecked, RefusesText}
+use Rattle.pc_source.specs.Reading.{HasNames, RefusesText}
 
 -- a text that is not cut into tokens
 pub uncut : (error : LexError) (text : List ℕ) → length text ≤ most_source → IsRefusal (lex_cause error) (lexed text) → RefusesText (refusal_of_lex error) text
@@ -72,19 +73,23 @@ given_checked (first ∷ others) found given is = absurd cc
 pub written : (unit : TranslationUnit) (given : SourceProgram) → inlining unit ≡ Ok given → (unit_refusals unit ≡ []) × (inlined_unit unit ≡ given)
 written unit given is = given_checked (unit_refusals unit) (inlined_unit unit) given is
 
--- a text that is read, inlined and checked
-pub is_checked : (text : List ℕ) (unit : TranslationUnit) (program : SourceProgram) (found : ResolvedProgram) → IsRead text unit
-    → unit_is_proper symbol_bound unit ≡ true → inlining unit ≡ Ok program → checked (faults program) (resolved program) ≡ Ok found → IsChecked text found
-is_checked text unit program found read proper inlined is =
+-- a text that is read, inlined and checked, and whose names are given
+pub has_names : (text : List ℕ) (unit : TranslationUnit) (program : SourceProgram) (found : ResolvedProgram) (names : ProgramNames) → IsRead text unit
+    → unit_is_proper symbol_bound unit ≡ true → inlining unit ≡ Ok program → checked (faults program) (resolved program) ≡ Ok found
+    → names ≡ names_of (names_of_text text) program → HasNames text found names
+has_names text unit program found names read proper inlined is named =
     let made = written unit program inlined in
     let clean = given_checked (faults program) (resolved program) found is in
     record {
-      unit = unit;
-      read = read;
-      proper = proper;
-      callable = made.0;
-      faultless = ap faults made.1 ∙ clean.0;
-      is_resolved = ap resolved made.1 ∙ clean.1;
+      is = record {
+        unit = unit;
+        read = read;
+        proper = proper;
+        callable = made.0;
+        faultless = ap faults made.1 ∙ clean.0;
+        is_resolved = ap resolved made.1 ∙ clean.1;
+      };
+      named = named ∙ ap (names_of (names_of_text text)) (sym made.1);
     }
 
 -- a program with a fault

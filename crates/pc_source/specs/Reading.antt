@@ -1,6 +1,7 @@
 -- What reading a source gives, and why it gives nothing.
 use Rattle.std.specs.Prelude.{◌≡◌, ℕ, true, List, []}
 use Rattle.std.specs.Borrow.{Bor}
+use Rattle.pc_lexer.specs.Tokens.{names_of_text}
 use Rattle.pc_syntax.specs.Proper.{unit_is_proper}
 use Rattle.pc_syntax.specs.Source.{ResolvedProgram}
 use Rattle.pc_syntax.specs.Unit.{TranslationUnit}
@@ -8,6 +9,7 @@ use Rattle.pc_calls.specs.Inlining.{inlined_unit, symbol_bound, unit_refusals}
 use Rattle.pc_check.specs.Faults.{faults}
 use Rattle.pc_check.specs.Resolution.{resolved}
 use Rattle.pc_command.specs.Requests.{SourcePlace, OfFile}
+use Rattle.pc_names.specs.Spellings.{ProgramNames, names_of}
 use Rattle.pc_outside.specs.Shelf.{Shelved, ReadFaultOf}
 use Rattle.pc_report.specs.declared.fault.SourceFault.TheVariants as fault
 use Rattle.pc_source.specs.Files.{HoldsSource}
@@ -41,6 +43,11 @@ pub record IsChecked (text : List ℕ) (checked : ResolvedProgram) : Type 0 wher
   pub callable : unit_refusals unit ≡ []
   pub faultless : faults (inlined_unit unit) ≡ []
   pub is_resolved : resolved (inlined_unit unit) ≡ checked
+
+-- the text is read as this program, to whose scalars and arrays it gives these names
+pub record HasNames (text : List ℕ) (checked : ResolvedProgram) (names : ProgramNames) : Type 0 where
+  pub is : IsChecked text checked
+  pub named : names ≡ names_of (names_of_text text) (inlined_unit is.unit)
 
 -- why a text has no program: it has this fault, or memory ran out
 abbrev pub RefusesText : Refusal → List ℕ → Type 0

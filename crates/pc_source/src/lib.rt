@@ -8,6 +8,6 @@ mod refusal;
 mod source;
 
 pub use laws::{laws_of_checked_texts, laws_of_sources};
-pub use program::read_program;
+pub use program::{NamedProgram, read_named, read_program};
 pub use refusal::Refusal;
 pub use source::{SourceError, read_source};
