@@ -1,5 +1,5 @@
 -- What stands on ways that lead back.
-use Rattle.std.proofs.Common.{◌≡◌, ℕ, ◌*◌, ◌≤◌, ◌<◌, ◌^◌, List, length, ◌∙◌, ap, subst, arith}
+use Rattle.std.proofs.Common.{Bool, ◌≡◌, ℕ, ◌*◌, ◌≤◌, ◌<◌, ◌^◌, List, length, ◌∙◌, ap, subst, arith}
 use Rattle.std.specs.Prelude.{IfSome}
 use Rattle.std.specs.List.{count_by}
 use Rattle.std.proofs.lemmas.Nat.{mul-le}
@@ -15,7 +15,7 @@ use Rattle.pc_cycles.specs.declared.cycle.Cycle.{Cycle}
 use Rattle.pc_cycles.specs.declared.transition.Transition.{Transition}
 use Rattle.pc_cycles.specs.Chains.{IsChain}
 use Rattle.pc_cycles.specs.Transitions.{items_along, tests_along, origins_along}
-use Rattle.pc_cycles.specs.Cycles.{IsCycle, IsGreatestCount, NeedsRows}
+use Rattle.pc_cycles.specs.Cycles.{IsCycle, IsGreatestCount, NeedsRows, iteration_origins}
 use Rattle.pc_cycles.specs.models.Circles.{IsCircle, AreThere, HaveFewLeaves}
 use Rattle.pc_cycles.specs.models.Walking.{IsGround}
 use Rattle.pc_cycles.proofs.Ways.{way_is_path, way_is_there, few_origins_along, few_leaves}
@@ -47,11 +47,11 @@ module _ (limits : Limits) (states : List AutomatonState) (ground : IsGround lim
       let few = few_in (length (tests_along states way)) limits.tests 7 way circle room.tests_fit ground.limited.tests.1 in
       omega (arith, few)
 
-  pub few_told : (tellings : List Telling) (way : List Transition) → IsCircle states way → length (origins_along states tellings way) < 2 ^ 32
-  few_told tellings way circle =
+  pub few_told : (of_items : Bool) (tellings : List Telling) (way : List Transition) → IsCircle states way → length (origins_along of_items states tellings way) < 2 ^ 32
+  few_told of_items tellings way circle =
       let items = few_items way circle in
       let tests = few_tests way circle in
-      let origins = few_origins_along states tellings way in
+      let origins = few_origins_along of_items states tellings way in
       omega (arith, items, tests, origins)
 
   -- so many rows are no more than it has
@@ -62,7 +62,7 @@ module _ (limits : Limits) (states : List AutomatonState) (ground : IsGround lim
 
   -- with these counts it is a cycle
   pub is_cycle : (tellings : List Telling) (cycle : Cycle) (items : List Item) (tests : List Operand) (origins : List ℕ) → IsCircle states cycle.transitions
-      → items ≡ items_along states cycle.transitions → tests ≡ tests_along states cycle.transitions → origins ≡ origins_along states tellings cycle.transitions
+      → items ≡ items_along states cycle.transitions → tests ≡ tests_along states cycle.transitions → origins ≡ iteration_origins states tellings cycle.transitions
       → cycle.items ≡ length items → cycle.tests ≡ length tests → cycle.memory ≡ count_by is_memory items → IsGreatestCount origins cycle.iterations
       → IsLeastRoom limits cycle.items cycle.tests cycle.memory cycle.least_rows
       → NeedsRows limits cycle.items cycle.tests cycle.memory cycle.resource cycle.least_rows → IfSome cycle.chain (IsChain states cycle.transitions)

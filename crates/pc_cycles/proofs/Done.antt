@@ -93,11 +93,11 @@ module _ (states : List AutomatonState) (met : List Bool) (cycles : List Cycle) 
     followed (is_done further) at there on = round further on
 
 -- where the walk is done with what it met, it is with all that is led to
-led_to_done : {states : List AutomatonState} {met : List Bool} {cycles : List Cycle} → ((state : ℕ) → IsMet met state → IsDone states met cycles state)
+way_done : {states : List AutomatonState} {met : List Bool} {cycles : List Cycle} → ((state : ℕ) → IsMet met state → IsDone states met cycles state)
     → {from to : ℕ} {way : List Transition} → Leads states from way to → IsDone states met cycles from → IsDone states met cycles to
-led_to_done all by_none from_done = from_done
-led_to_done {states} {met} {cycles} all (by_first {from} {next} {to} {first} {others} is leads further) from_done =
-    led_to_done all further (next_done from_done)
+way_done all by_none from_done = from_done
+way_done {states} {met} {cycles} all (by_first {from} {next} {to} {first} {others} is leads further) from_done =
+    way_done all further (next_done from_done)
   where
     of_followed : {transition : Transition} → IsFollowed states met cycles transition next → IsDone states met cycles next
     of_followed (is_closed closes next_met) = all next next_met
@@ -113,4 +113,4 @@ led_to_done {states} {met} {cycles} all (by_first {from} {next} {to} {first} {ot
 pub none_passed_over : (states : List AutomatonState) (met : List Bool) (cycles : List Cycle) → ((state : ℕ) → IsMet met state → IsDone states met cycles state)
     → IsDone states met cycles 0 → NoneIsPassedOver states cycles
 none_passed_over states met cycles all first_done at way around leads closed some =
-    round states met cycles around at some closed (led_to_done all leads first_done) (record { at = 0; left = closed })
+    round states met cycles around at some closed (way_done all leads first_done) (record { at = 0; left = closed })

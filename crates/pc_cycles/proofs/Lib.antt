@@ -7,3 +7,4 @@ pub mod Paths
 pub mod Done
 pub mod Visits
 pub mod Chains
+pub mod Bounded

@@ -1,5 +1,5 @@
 -- What stands on a way, transition by transition.
-use Rattle.std.proofs.Common.{◌≡◌, ℕ, zero, suc, ◌+◌, ◌<◌, ◌^◌, List, [], ◌∷◌, ◌++◌, append_assoc, length, drop, get_or, Some, refl, sym, ◌∙◌, ap, arith}
+use Rattle.std.proofs.Common.{Bool, ◌≡◌, ℕ, zero, suc, ◌+◌, ◌<◌, ◌^◌, List, [], ◌∷◌, ◌++◌, append_assoc, length, drop, get_or, Some, refl, sym, ◌∙◌, ap, arith}
 use Rattle.std.specs.Prelude.{Option, None, slice_get}
 use Rattle.std.proofs.lemmas.List.{length-map, drop_more}
 use Rattle.std.proofs.lemmas.Option.{slice_get-get_or}
@@ -14,7 +14,7 @@ use Rattle.pc_automaton.specs.Automaton.{AutomatonState, state_in, states_in}
 use Rattle.pc_told.specs.declared.told_row.ToldRow.{ToldRow}
 use Rattle.pc_told.specs.Tellings.{Telling, telling_in, tellings_in}
 use Rattle.pc_cycles.specs.declared.transition.Transition.{Transition}
-use Rattle.pc_cycles.specs.Transitions.{leaf_to, led_to, led_from, next_of, items_to, tests_to, origins_to, items_from, tests_from, origins_from, items_along, tests_along, origins_along}
+use Rattle.pc_cycles.specs.Transitions.{leaf_to, successor_of, successor_from, next_of, items_to, tests_to, origins_to, items_from, tests_from, origins_from, items_along, tests_along, origins_along}
 use Rattle.pc_cycles.specs.Chains.{passed_by, passed_from}
 use Rattle.pc_cycles.specs.models.Circles.{AreThere, HaveFewLeaves}
 
@@ -43,16 +43,17 @@ module _ (stored : List StoredState) where
       → tests_to (row_in (λ leaf. leaf) state.row) leaf ≡ tests_from (slice_get (states_in stored) number) leaf
   tests_of_state number leaf state there = sym (ap (λ (o : Option AutomatonState). tests_from o leaf) (map_at state_in stored number state there))
 
-  pub origins_of_state : (rows : List ToldRow) (number leaf : ℕ) (state : StoredState) (row : ToldRow) → slice_get stored number ≡ Some state
+  pub origins_of_state : (of_items : Bool) (rows : List ToldRow) (number leaf : ℕ) (state : StoredState) (row : ToldRow) → slice_get stored number ≡ Some state
       → slice_get rows number ≡ Some row
-      → origins_to (row_in (λ leaf. leaf) state.row) (telling_in row) leaf ≡ origins_from (slice_get (states_in stored) number) (slice_get (tellings_in rows) number) leaf
-  origins_of_state rows number leaf state row there told =
-      sym (λ i. origins_from (map_at state_in stored number state there i) (map_at telling_in rows number row told i) leaf)
+      → origins_to of_items (row_in (λ leaf. leaf) state.row) (telling_in row) leaf
+      ≡ origins_from of_items (slice_get (states_in stored) number) (slice_get (tellings_in rows) number) leaf
+  origins_of_state of_items rows number leaf state row there told =
+      sym (λ i. origins_from of_items (map_at state_in stored number state there i) (map_at telling_in rows number row told i) leaf)
 
   -- and where it leads
   pub leads_of_state : (number leaf : ℕ) (state : StoredState) → slice_get stored number ≡ Some state
-      → next_of (states_in stored) (record { state = number; leaf = leaf }) ≡ led_to (leaf_to (row_in (λ leaf. leaf) state.row) leaf)
-  leads_of_state number leaf state there = ap (λ (o : Option AutomatonState). led_from o leaf) (map_at state_in stored number state there)
+      → next_of (states_in stored) (record { state = number; leaf = leaf }) ≡ successor_of (leaf_to (row_in (λ leaf. leaf) state.row) leaf)
+  leads_of_state number leaf state there = ap (λ (o : Option AutomatonState). successor_from o leaf) (map_at state_in stored number state there)
 
   -- and what it passes
   pub passed_of_state : (number leaf parameter : ℕ) (state : StoredState) → slice_get stored number ≡ Some state
@@ -67,11 +68,11 @@ none_told [] number e = refl
 none_told (row ∷ rows) zero e = absurd (cc)
 none_told (row ∷ rows) (suc number) e = none_told rows number e
 
-pub no_origins : (rows : List ToldRow) (number leaf : ℕ) (state : Option AutomatonState) → slice_get rows number ≡ None
-    → origins_from state (slice_get (tellings_in rows) number) leaf ≡ []
-no_origins rows number leaf state none = ap (λ (telling : Option Telling). origins_from state telling leaf) (none_told rows number none) ∙ of_none state
+pub no_origins : (of_items : Bool) (rows : List ToldRow) (number leaf : ℕ) (state : Option AutomatonState) → slice_get rows number ≡ None
+    → origins_from of_items state (slice_get (tellings_in rows) number) leaf ≡ []
+no_origins of_items rows number leaf state none = ap (λ (telling : Option Telling). origins_from of_items state telling leaf) (none_told rows number none) ∙ of_none state
   where
-    of_none : (state : Option AutomatonState) → origins_from state None leaf ≡ []
+    of_none : (state : Option AutomatonState) → origins_from of_items state None leaf ≡ []
     of_none (Some state) = refl
     of_none None = refl
 
@@ -104,11 +105,11 @@ module _ (stored : List StoredState) (way : List Transition) (at : ℕ) (d : Tra
       ∙ next_along (tests_along (states_in stored)) (λ t. tests_from (slice_get (states_in stored) t.state) t.leaf) (λ first others. refl) way at d tests below so_far
 
 -- the origins of one transition more
-pub next_origins : (states : List AutomatonState) (tellings : List Telling) (way : List Transition) (at : ℕ) (d : Transition) → at < length way → (origins new : List ℕ)
-    → new ≡ origins ++ origins_from (slice_get states (get_or way at d).state) (slice_get tellings (get_or way at d).state) (get_or way at d).leaf
-    → origins ++ origins_along states tellings (drop at way) ≡ origins_along states tellings way
-    → new ++ origins_along states tellings (drop (at + 1) way) ≡ origins_along states tellings way
-next_origins states tellings way at d below origins new is so_far =
-    ap (λ (l : List ℕ). l ++ origins_along states tellings (drop (at + 1) way)) is
-    ∙ next_along (origins_along states tellings) (λ t. origins_from (slice_get states t.state) (slice_get tellings t.state) t.leaf) (λ first others. refl) way at d
+pub next_origins : (of_items : Bool) (states : List AutomatonState) (tellings : List Telling) (way : List Transition) (at : ℕ) (d : Transition) → at < length way → (origins new : List ℕ)
+    → new ≡ origins ++ origins_from of_items (slice_get states (get_or way at d).state) (slice_get tellings (get_or way at d).state) (get_or way at d).leaf
+    → origins ++ origins_along of_items states tellings (drop at way) ≡ origins_along of_items states tellings way
+    → new ++ origins_along of_items states tellings (drop (at + 1) way) ≡ origins_along of_items states tellings way
+next_origins of_items states tellings way at d below origins new is so_far =
+    ap (λ (l : List ℕ). l ++ origins_along of_items states tellings (drop (at + 1) way)) is
+    ∙ next_along (origins_along of_items states tellings) (λ t. origins_from of_items (slice_get states t.state) (slice_get tellings t.state) t.leaf) (λ first others. refl) way at d
     origins below so_far

@@ -15,7 +15,7 @@ use Rattle.pc_automaton.specs.RowFits.{RowFits}
 use Rattle.pc_told.specs.Resources.{PathIn, to_leaf, past_item, to_yes, to_no, PathThrough, through_none, through_next}
 use Rattle.pc_told.specs.Tellings.{Telling, Tells_item, Tells_test, Tells_leaf}
 use Rattle.pc_cycles.specs.declared.transition.Transition.{Transition}
-use Rattle.pc_cycles.specs.Transitions.{leaf_to, items_to, tests_to, origins_to, led_to, led_from, next_of, items_from, tests_from, origins_from}
+use Rattle.pc_cycles.specs.Transitions.{leaf_to, items_to, tests_to, origins_to, successor_of, successor_from, next_of, items_from, tests_from, origins_from}
 use Rattle.pc_cycles.specs.Transitions.{Leads, by_none, by_first, items_along, tests_along, origins_along}
 use Rattle.pc_cycles.specs.models.Circles.{HaveFewLeaves, AreThere}
 
@@ -79,26 +79,27 @@ leaves_by_tests (Either on on_yes on_no) =
 leaves_by_tests (At_leaf leaf) = refl
 
 -- no more origins are told than there are items and tests
-pub few_origins : {L : Type 0} (row : Row L) (telling : Telling) (number : ℕ)
-    → length (origins_to row telling number) ≤ length (items_to row number) + length (tests_to row number)
-few_origins (Then item rest) (Tells_item iteration origin told below) number = let few = few_origins rest below number in omega (arith, few)
-few_origins (Then item rest) (Tells_test iteration origin told one other) number = omega arith
-few_origins (Then item rest) (Tells_leaf advance) number = omega arith
-few_origins (Either on on_yes on_no) (Tells_item iteration origin told below) number = omega arith
-few_origins (Either on on_yes on_no) (Tells_leaf advance) number = omega arith
-few_origins (Either on on_yes on_no) (Tells_test iteration origin told one other) number =
-    by (nat_lt number (length (leaves_of on_yes))) (few_origins on_yes one number) (few_origins on_no other (number - length (leaves_of on_yes)))
+pub few_origins : {L : Type 0} (of_items : Bool) (row : Row L) (telling : Telling) (number : ℕ)
+    → length (origins_to of_items row telling number) ≤ length (items_to row number) + length (tests_to row number)
+few_origins true (Then item rest) (Tells_item iteration origin told below) number = let few = few_origins true rest below number in omega (arith, few)
+few_origins false (Then item rest) (Tells_item iteration origin told below) number = let few = few_origins false rest below number in omega (arith, few)
+few_origins of_items (Then item rest) (Tells_test iteration origin told one other) number = omega arith
+few_origins of_items (Then item rest) (Tells_leaf advance) number = omega arith
+few_origins of_items (Either on on_yes on_no) (Tells_item iteration origin told below) number = omega arith
+few_origins of_items (Either on on_yes on_no) (Tells_leaf advance) number = omega arith
+few_origins of_items (Either on on_yes on_no) (Tells_test iteration origin told one other) number =
+    by (nat_lt number (length (leaves_of on_yes))) (few_origins of_items on_yes one number) (few_origins of_items on_no other (number - length (leaves_of on_yes)))
   where
     by : (b : Bool)
-        → length (origins_to on_yes one number) ≤ length (items_to on_yes number) + length (tests_to on_yes number)
-        → length (origins_to on_no other (number - length (leaves_of on_yes)))
+        → length (origins_to of_items on_yes one number) ≤ length (items_to on_yes number) + length (tests_to on_yes number)
+        → length (origins_to of_items on_no other (number - length (leaves_of on_yes)))
         ≤ length (items_to on_no (number - length (leaves_of on_yes))) + length (tests_to on_no (number - length (leaves_of on_yes)))
-        → suc (length (if b then origins_to on_yes one number else origins_to on_no other (number - length (leaves_of on_yes))))
+        → suc (length (if b then origins_to of_items on_yes one number else origins_to of_items on_no other (number - length (leaves_of on_yes))))
         ≤ length (if b then items_to on_yes number else items_to on_no (number - length (leaves_of on_yes)))
         + suc (length (if b then tests_to on_yes number else tests_to on_no (number - length (leaves_of on_yes))))
     by true one other = omega (arith, one)
     by false one other = omega (arith, other)
-few_origins (At_leaf leaf) telling number = omega arith
+few_origins of_items (At_leaf leaf) telling number = omega arith
 
 -- ---- a transition
 
@@ -113,7 +114,7 @@ pub led_by : (states : List AutomatonState) (transition : Transition) (to : ℕ)
 led_by states transition to e = by (slice_get states transition.state) refl e
   where
     by_leaf : (state : AutomatonState) → slice_get states transition.state ≡ Some state → (leaf : Option AutomatonLeaf)
-        → leaf_to state.row transition.leaf ≡ leaf → led_to leaf ≡ Some to → LeadsBy states transition to
+        → leaf_to state.row transition.leaf ≡ leaf → successor_of leaf ≡ Some to → LeadsBy states transition to
     by_leaf state there (Some (To number arguments)) leaf e =
         let same : number ≡ to = (cc) in
         record { state = state; arguments = arguments; there = there; leaf = leaf ∙ ap (λ n. Some (To n arguments)) same }
@@ -122,7 +123,7 @@ led_by states transition to e = by (slice_get states transition.state) refl e
     by_leaf state there (Some (Trap kind line)) leaf e = absurd (cc)
     by_leaf state there None leaf e = absurd (cc)
 
-    by : (found : Option AutomatonState) → slice_get states transition.state ≡ found → led_from found transition.leaf ≡ Some to → LeadsBy states transition to
+    by : (found : Option AutomatonState) → slice_get states transition.state ≡ found → successor_from found transition.leaf ≡ Some to → LeadsBy states transition to
     by (Some state) there e = by_leaf state there (leaf_to state.row transition.leaf) refl e
     by None there e = absurd (cc)
 
@@ -150,20 +151,20 @@ leads_last last to by_none is leads = by_first is leads by_none
 leads_last last to (by_first first_is first_leads further) is leads = by_first first_is first_leads (leads_last last to further is leads)
 
 -- no more origins are told on a way than there are items and tests
-pub few_origins_along : (states : List AutomatonState) (tellings : List Telling) (way : List Transition)
-    → length (origins_along states tellings way) ≤ length (items_along states way) + length (tests_along states way)
-few_origins_along states tellings [] = omega arith
-few_origins_along states tellings (first ∷ others) =
-    let rest = few_origins_along states tellings others in
+pub few_origins_along : (of_items : Bool) (states : List AutomatonState) (tellings : List Telling) (way : List Transition)
+    → length (origins_along of_items states tellings way) ≤ length (items_along states way) + length (tests_along states way)
+few_origins_along of_items states tellings [] = omega arith
+few_origins_along of_items states tellings (first ∷ others) =
+    let rest = few_origins_along of_items states tellings others in
     let here = one (slice_get states first.state) (slice_get tellings first.state) first.leaf in
-    let origins = length-append (origins_from (slice_get states first.state) (slice_get tellings first.state) first.leaf) (origins_along states tellings others) in
+    let origins = length-append (origins_from of_items (slice_get states first.state) (slice_get tellings first.state) first.leaf) (origins_along of_items states tellings others) in
     let items = length-append (items_from (slice_get states first.state) first.leaf) (items_along states others) in
     let tests = length-append (tests_from (slice_get states first.state) first.leaf) (tests_along states others) in
     omega (arith, rest, here, origins, items, tests)
   where
     one : (state : Option AutomatonState) (telling : Option Telling) (leaf : ℕ)
-        → length (origins_from state telling leaf) ≤ length (items_from state leaf) + length (tests_from state leaf)
-    one (Some state) (Some telling) leaf = few_origins state.row telling leaf
+        → length (origins_from of_items state telling leaf) ≤ length (items_from state leaf) + length (tests_from state leaf)
+    one (Some state) (Some telling) leaf = few_origins of_items state.row telling leaf
     one (Some state) None leaf = omega arith
     one None telling leaf = omega arith
 

@@ -1,5 +1,5 @@
 -- Chains of items round a cycle, each of which reads what the one before wrote.
-use Rattle.std.specs.Prelude.{◌≡◌, ℕ, zero, suc, ◌*◌, ◌%◌, ◌≤◌, if◌then◌else◌, nat_eq, is_some, List, [], ◌∷◌, length, Option, Some, None, slice_get}
+use Rattle.std.specs.Prelude.{◌≡◌, ℕ, suc, ◌*◌, ◌%◌, ◌≤◌, if◌then◌else◌, nat_eq, is_some, List, [], ◌∷◌, length, Option, Some, None, slice_get}
 use Rattle.std.specs.List.{count_by}
 use Rattle.pc_word.specs.declared.item.Item.{Item}
 use Rattle.pc_word.specs.declared.item.Operand.{Operand}

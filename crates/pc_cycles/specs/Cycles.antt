@@ -42,6 +42,11 @@ NeedsRows limits items tests memory resource least = (rows : ℕ) → HasRoomFor
 
 -- ---- cycles
 
+-- What tells how many iterations go by: the origins of the tests on the way, of which a node's comes once an iteration. Where there is no
+-- test, those of the items; of an item several may stand on a way, where it was done ahead for both sides of a test.
+abbrev pub iteration_origins : List AutomatonState → List Telling → List Transition → List ℕ
+iteration_origins states tellings transitions = origins_along (nat_eq (length (tests_along states transitions)) 0) states tellings transitions
+
 -- a cycle of states, with what stands on the way once around
 pub record IsCycle (limits : Limits) (states : List AutomatonState) (tellings : List Telling) (cycle : Cycle) : Type 0 where
   -- it leads from a state back to this, and no state stands twice on it
@@ -50,7 +55,7 @@ pub record IsCycle (limits : Limits) (states : List AutomatonState) (tellings : 
   pub some : 1 ≤ length cycle.transitions
   pub once : IsDistinct nat_eq (map (λ transition. transition.state) cycle.transitions)
   -- these are the counts
-  pub iterations : IsGreatestCount (origins_along states tellings cycle.transitions) cycle.iterations
+  pub iterations : IsGreatestCount (iteration_origins states tellings cycle.transitions) cycle.iterations
   pub items : cycle.items ≡ length (items_along states cycle.transitions)
   pub tests : cycle.tests ≡ length (tests_along states cycle.transitions)
   pub memory : cycle.memory ≡ count_by is_memory (items_along states cycle.transitions)

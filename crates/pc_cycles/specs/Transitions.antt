@@ -1,5 +1,5 @@
 -- Transitions from state to state: where they lead, and what stands on the way.
-use Rattle.std.specs.Prelude.{◌≡◌, ℕ, ◌-◌, if◌then◌else◌, nat_eq, nat_lt, List, [], ◌∷◌, ◌++◌, length, Option, Some, None, slice_get}
+use Rattle.std.specs.Prelude.{◌≡◌, ℕ, Bool, ◌-◌, if◌then◌else◌, nat_eq, nat_lt, List, [], ◌∷◌, ◌++◌, length, Option, Some, None, slice_get}
 use Rattle.pc_word.specs.declared.item.Item.{Item}
 use Rattle.pc_word.specs.declared.item.Operand.{Operand}
 use Rattle.pc_word.specs.Row.{Row, Then, Either, At_leaf, leaves_of}
@@ -32,12 +32,14 @@ tests_to (Either on on_yes on_no) leaf =
     on ∷ (if nat_lt leaf (length (leaves_of on_yes)) then tests_to on_yes leaf else tests_to on_no (leaf - length (leaves_of on_yes)))
 tests_to (At_leaf here) leaf = []
 
--- the origins that are told of the items and tests on it
-abbrev pub origins_to : {L : Type 0} → Row L → Telling → (leaf : ℕ) → List ℕ
-origins_to (Then item rest) (Tells_item iteration origin told below) leaf = origin ∷ origins_to rest below leaf
-origins_to (Either on on_yes on_no) (Tells_test iteration origin told one other) leaf =
-    origin ∷ (if nat_lt leaf (length (leaves_of on_yes)) then origins_to on_yes one leaf else origins_to on_no other (leaf - length (leaves_of on_yes)))
-origins_to _ _ leaf = []
+-- the origins that are told of the tests on it, and of its items too, if they are asked for
+abbrev pub origins_to : {L : Type 0} → (of_items : Bool) → Row L → Telling → (leaf : ℕ) → List ℕ
+origins_to of_items (Then item rest) (Tells_item iteration origin told below) leaf =
+    if of_items then origin ∷ origins_to of_items rest below leaf else origins_to of_items rest below leaf
+origins_to of_items (Either on on_yes on_no) (Tells_test iteration origin told one other) leaf =
+    origin ∷ (if nat_lt leaf (length (leaves_of on_yes)) then origins_to of_items on_yes one leaf
+    else origins_to of_items on_no other (leaf - length (leaves_of on_yes)))
+origins_to of_items _ _ leaf = []
 
 -- the origin that is told of the item with this number among those on it, counted from 0, if there are so many
 abbrev pub item_origin_to : {L : Type 0} → Row L → Telling → (leaf number : ℕ) → Option ℕ
@@ -51,21 +53,21 @@ item_origin_to _ _ leaf number = None
 -- ---- by a transition
 
 -- the state to which a leaf leads, if it leads to one
-abbrev pub led_to : Option AutomatonLeaf → Option ℕ
-led_to None = None
-led_to (Some (To state arguments)) = Some state
-led_to (Some (Out region homes)) = None
-led_to (Some Stop) = None
-led_to (Some (Trap kind line)) = None
+abbrev pub successor_of : Option AutomatonLeaf → Option ℕ
+successor_of None = None
+successor_of (Some (To state arguments)) = Some state
+successor_of (Some (Out region homes)) = None
+successor_of (Some Stop) = None
+successor_of (Some (Trap kind line)) = None
 
 -- the same of the leaf of a state, if the state is there
-abbrev pub led_from : Option AutomatonState → (leaf : ℕ) → Option ℕ
-led_from None leaf = None
-led_from (Some state) leaf = led_to (leaf_to state.row leaf)
+abbrev pub successor_from : Option AutomatonState → (leaf : ℕ) → Option ℕ
+successor_from None leaf = None
+successor_from (Some state) leaf = successor_of (leaf_to state.row leaf)
 
 -- the state to which a transition leads, if it leads to one
 abbrev pub next_of : List AutomatonState → Transition → Option ℕ
-next_of states transition = led_from (slice_get states transition.state) transition.leaf
+next_of states transition = successor_from (slice_get states transition.state) transition.leaf
 
 -- the items on the path to a leaf of a state
 abbrev pub items_from : Option AutomatonState → (leaf : ℕ) → List Item
@@ -77,10 +79,10 @@ abbrev pub tests_from : Option AutomatonState → (leaf : ℕ) → List Operand
 tests_from None leaf = []
 tests_from (Some state) leaf = tests_to state.row leaf
 
--- the origins that are told of both
-abbrev pub origins_from : Option AutomatonState → Option Telling → (leaf : ℕ) → List ℕ
-origins_from (Some state) (Some telling) leaf = origins_to state.row telling leaf
-origins_from _ _ leaf = []
+-- the origins that are told of the tests, and of the items too, if they are asked for
+abbrev pub origins_from : (of_items : Bool) → Option AutomatonState → Option Telling → (leaf : ℕ) → List ℕ
+origins_from of_items (Some state) (Some telling) leaf = origins_to of_items state.row telling leaf
+origins_from of_items _ _ leaf = []
 
 -- ---- by several
 
@@ -100,8 +102,8 @@ abbrev pub tests_along : List AutomatonState → List Transition → List Operan
 tests_along states [] = []
 tests_along states (first ∷ others) = tests_from (slice_get states first.state) first.leaf ++ tests_along states others
 
--- the origins that are told of both
-abbrev pub origins_along : List AutomatonState → List Telling → List Transition → List ℕ
-origins_along states tellings [] = []
-origins_along states tellings (first ∷ others) =
-    origins_from (slice_get states first.state) (slice_get tellings first.state) first.leaf ++ origins_along states tellings others
+-- the origins that are told of the tests, and of the items too, if they are asked for
+abbrev pub origins_along : (of_items : Bool) → List AutomatonState → List Telling → List Transition → List ℕ
+origins_along of_items states tellings [] = []
+origins_along of_items states tellings (first ∷ others) =
+    origins_from of_items (slice_get states first.state) (slice_get tellings first.state) first.leaf ++ origins_along of_items states tellings others

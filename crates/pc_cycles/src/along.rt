@@ -48,33 +48,39 @@ pub(crate) fn tests_along(
     Ok(tests)
 }
 
-/// The origins that are told of both.
+/// The origins that are told of the tests, and of the items too, if they are asked for.
 pub(crate) fn origins_along(
     alloc: Global,
     told: &Told,
     way: &[Transition],
+    of_items: bool,
 ) -> Result<Seq<u32>, AllocError>
     requires there { AreThere (states_in told.now.automaton) way.now }
     requires few { HaveFewLeaves (states_in told.now.automaton) }
-    ensures { IfOk result (λ origins. origins ≡ origins_along (states_in told.now.automaton) (tellings_in told.now.rows) way.now) }
+    ensures { IfOk result (λ origins. origins ≡ origins_along of_items (states_in told.now.automaton) (tellings_in told.now.rows) way.now) }
 {
     let mut origins = Seq::new(alloc);
     for transition in way {
-        push_told(told, *transition, &mut origins)?;
+        push_told(told, *transition, of_items, &mut origins)?;
     }
     Ok(origins)
 }
 
 /// Appends the origins that are told of what stands on the path of one transition.
-fn push_told(told: &Told, transition: Transition, origins: &mut Seq<u32>) -> Result<(), AllocError>
+fn push_told(
+    told: &Told,
+    transition: Transition,
+    of_items: bool,
+    origins: &mut Seq<u32>,
+) -> Result<(), AllocError>
     requires there { transition.state < length (states_in told.now.automaton) }
     requires few { HaveFewLeaves (states_in told.now.automaton) }
-    ensures { OnOk result (origins.new ≡ origins.old ++ origins_from (slice_get (states_in told.now.automaton) transition.state) (slice_get (tellings_in told.now.rows) transition.state) transition.leaf) }
+    ensures { OnOk result (origins.new ≡ origins.old ++ origins_from of_items (slice_get (states_in told.now.automaton) transition.state) (slice_get (tellings_in told.now.rows) transition.state) transition.leaf) }
 {
     match told.rows.get(transition.state as usize) {
         Some(row) => {
             let state = told.automaton.state(transition.state);
-            push_origins(&state.row, row, transition.leaf, origins)
+            push_origins(&state.row, row, transition.leaf, of_items, origins)
         }
         None => Ok(()),
     }

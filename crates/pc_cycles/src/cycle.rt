@@ -27,8 +27,8 @@ use std::alloc::Global;
 pub struct Cycle {
     /// The transitions, each from the state to which the one before leads, and the first from the state to which the last one leads.
     pub transitions: TransitionList,
-    /// How many iterations of the loop go by once around: the greatest number of items and tests with one origin. A node of the flow
-    /// graph is done once an iteration.
+    /// How many iterations of the loop go by once around: the greatest number of tests with one origin, since a node's test is done once
+    /// an iteration; where there is no test, of items.
     pub iterations: u32,
     /// How many items stand there.
     pub items: u32,
@@ -60,10 +60,10 @@ impl Cycle {
     {
         let items = items_along(alloc, told, transitions.as_slice())?;
         let tests = tests_along(alloc, told, transitions.as_slice())?;
-        let origins = origins_along(alloc, told, transitions.as_slice())?;
         let memory = memory_count(items.as_slice());
         let items = items.len() as u32;
         let tests = tests.len() as u32;
+        let origins = origins_along(alloc, told, transitions.as_slice(), tests == 0)?;
         let least_rows = resource_bound(limits, items, tests, memory);
         let chain = recurrence(alloc, told, transitions.as_slice())?;
         Ok(Cycle {

@@ -4,9 +4,11 @@
 #![tactic(auto)]
 
 mod along;
+mod bound;
 mod chain;
 mod cycle;
 mod frequency;
+mod laws;
 mod path;
 mod recurrence;
 mod resource;
@@ -16,6 +18,7 @@ mod walk;
 
 pub use chain::{Chain, Link};
 pub use cycle::Cycle;
+pub use laws::law_of_bounds;
 use pc_word::Seq;
 pub use rows::item_origin;
 pub use transition::Transition;

@@ -4,7 +4,7 @@ ghost use Rattle.std.specs.Option.{option_copied};
 ghost use Rattle.pc_word.specs.Row.{leaves_of};
 ghost use Rattle.pc_word.specs.StoredRow.{row_in};
 ghost use Rattle.pc_told.specs.Tellings.{telling_in};
-ghost use Rattle.pc_cycles.specs.Transitions.{leaf_to, led_to, items_to, tests_to, origins_to, item_origin_to};
+ghost use Rattle.pc_cycles.specs.Transitions.{leaf_to, successor_of, items_to, tests_to, origins_to, item_origin_to};
 
 use pc_automaton::{AutomatonLeaf, OperandList};
 use pc_told::ToldRow;
@@ -70,19 +70,19 @@ pub(crate) fn item_at(row: &RowTree<AutomatonLeaf>, leaf: u32, number: u32) -> O
 }
 
 /// The state to which a leaf leads, by its number, if it is there and leads to one.
-pub(crate) fn led_to(row: &RowTree<AutomatonLeaf>, leaf: u32) -> Option<u32>
+pub(crate) fn successor_at(row: &RowTree<AutomatonLeaf>, leaf: u32) -> Option<u32>
     requires { length (leaves_of (row_in (λ leaf. leaf) row.now)) < 2 ^ 32 }
-    ensures { result ≡ led_to (leaf_to (row_in (λ leaf. leaf) row.now) leaf) }
+    ensures { result ≡ successor_of (leaf_to (row_in (λ leaf. leaf) row.now) leaf) }
 {
     match leaf_at(row, leaf) {
-        Some(leaf) => target(leaf),
+        Some(leaf) => successor_of(leaf),
         None => None,
     }
 }
 
 /// The state to which a leaf leads, if it leads to one.
-fn target(leaf: &AutomatonLeaf) -> Option<u32>
-    ensures { result ≡ led_to (Some leaf.now) }
+fn successor_of(leaf: &AutomatonLeaf) -> Option<u32>
+    ensures { result ≡ successor_of (Some leaf.now) }
 {
     match leaf {
         AutomatonLeaf::To { state, .. } => Some(*state),
@@ -140,15 +140,16 @@ pub(crate) fn push_tests(
     }
 }
 
-/// Appends the origins that are told of both.
+/// Appends the origins that are told of the tests, and of the items too, if they are asked for.
 pub(crate) fn push_origins(
     row: &RowTree<AutomatonLeaf>,
     told: &ToldRow,
     leaf: u32,
+    of_items: bool,
     origins: &mut Seq<u32>,
 ) -> Result<(), AllocError>
     requires { length (leaves_of (row_in (λ leaf. leaf) row.now)) < 2 ^ 32 }
-    ensures { OnOk result (origins.new ≡ origins.old ++ origins_to (row_in (λ leaf. leaf) row.now) (telling_in told.now) leaf) }
+    ensures { OnOk result (origins.new ≡ origins.old ++ origins_to of_items (row_in (λ leaf. leaf) row.now) (telling_in told.now) leaf) }
 {
     match (row, told) {
         (
@@ -159,8 +160,10 @@ pub(crate) fn push_origins(
                 ..
             },
         ) => {
-            origins.push(*origin)?;
-            push_origins(next, below, leaf, origins)
+            if of_items {
+                origins.push(*origin)?;
+            }
+            push_origins(next, below, leaf, of_items, origins)
         }
         (
             RowTree::Test { yes, no, .. },
@@ -174,9 +177,9 @@ pub(crate) fn push_origins(
             origins.push(*origin)?;
             let on_yes = leaf_count(yes);
             if leaf < on_yes {
-                return push_origins(yes, one, leaf, origins);
+                return push_origins(yes, one, leaf, of_items, origins);
             }
-            push_origins(no, other, leaf - on_yes, origins)
+            push_origins(no, other, leaf - on_yes, of_items, origins)
         }
         _ => Ok(()),
     }

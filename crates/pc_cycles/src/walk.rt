@@ -10,7 +10,7 @@ ghost use Rattle.pc_cycles.specs.models.Walking.{IsGround, IsAt, IsFound, Visits
 
 use crate::cycle::Cycle;
 use crate::path::{Path, is_on, push_since};
-use crate::rows::{leaf_count, led_to};
+use crate::rows::{leaf_count, successor_at};
 use crate::transition::Transition;
 use crate::{CycleList, TransitionList};
 use pc_told::Told;
@@ -57,7 +57,7 @@ fn visit(
     met[state as usize] = true;
     let row = &told.automaton.state(state).row;
     for leaf in 0..leaf_count(row) {
-        if let Some(next) = led_to(row, leaf) {
+        if let Some(next) = successor_at(row, leaf) {
             let transition = Transition { state, leaf };
             let path = Path::After {
                 transition,

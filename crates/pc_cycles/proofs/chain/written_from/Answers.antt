@@ -1,4 +1,4 @@
-use Rattle.std.proofs.Common.{◌≡◌, ◌∙◌, List, true, false, ap, sym}
+use Rattle.std.proofs.Common.{◌∙◌, List, true, false, ap, sym}
 use Rattle.std.specs.Prelude.{slice_get}
 use Rattle.pc_word.specs.declared.item.Item.{Item}
 use Rattle.pc_cycles.specs.Chains.{written_from}

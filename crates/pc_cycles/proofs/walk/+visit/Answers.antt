@@ -44,7 +44,7 @@ pub visit-follow-requires : goal.visit-follow-requires
 visit-follow-requires t c =
     let states = states_in c.args.told.now.automaton in
     let leads =
-    leads_of_state c.args.told.now.automaton c.args.state c.loop-leaf.leaf c.state.result.now c.state.ensures ∙ sym c.led_to.ensures ∙ c.in-Some.is in
+    leads_of_state c.args.told.now.automaton c.args.state c.loop-leaf.leaf c.state.result.now c.state.ensures ∙ sym c.successor_at.ensures ∙ c.in-Some.is in
     let fewer = one_fewer c.args.met.now c.args.state c.requires.first_met in
     let still = c.loop-leaf.invariant.finds.fewer_left in (
       omega (arith, c.decreases, fewer, still),
@@ -61,8 +61,8 @@ visit-follow-requires t c =
 
 pub visit-loop-leaf-preserved : goal.visit-loop-leaf-preserved
 visit-loop-leaf-preserved t c =
-    let leads = leads_of_state c.args.told.now.automaton c.args.state c.loop-leaf.leaf c.state.result.now c.state.ensures ∙ sym c.led_to.ensures in
-    elim c.match-led_to.branch [
+    let leads = leads_of_state c.args.told.now.automaton c.args.state c.loop-leaf.leaf c.state.result.now c.state.ensures ∙ sym c.successor_at.ensures in
+    elim c.match-successor_at.branch [
       | visit-in-Some+in_ok-follow w ↦
           rw (w.met-is, w.cycles-is) (followed_leaf c.loop-leaf.invariant (leads ∙ w.in-Some.is) w.in_ok-follow.ensures.finds w.in_ok-follow.ensures.followed
           w.in_ok-follow.ensures.found)

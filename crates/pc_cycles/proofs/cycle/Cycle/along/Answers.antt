@@ -1,4 +1,5 @@
-use Rattle.std.proofs.Common.{◌∙◌, ap, arith}
+use Rattle.std.proofs.Common.{ℕ, nat_eq, List, length, ◌∙◌, ap, arith}
+use Rattle.pc_word.specs.declared.item.Operand.{Operand}
 use Rattle.pc_word.specs.Items.{is_memory}
 use Rattle.std.specs.List.{count_by}
 use Rattle.std.proofs.lemmas.List.{length-map}
@@ -24,7 +25,7 @@ tests_along-requires-clause-few c = leaves_are_few c.args.limits (states_in c.ar
 
 pub origins_along-requires-clause-there : goal.origins_along-requires-clause-there
 origins_along-requires-clause-there c =
-    rw c.as_slice-3.ensures (circle_is_there c.args.limits (states_in c.args.told.now.automaton) c.requires.ground c.args.transitions c.requires.circle)
+    rw c.as_slice-4.ensures (circle_is_there c.args.limits (states_in c.args.told.now.automaton) c.requires.ground c.args.transitions c.requires.circle)
 
 pub origins_along-requires-clause-few : goal.origins_along-requires-clause-few
 origins_along-requires-clause-few c = leaves_are_few c.args.limits (states_in c.args.told.now.automaton) c.requires.ground
@@ -32,7 +33,7 @@ origins_along-requires-clause-few c = leaves_are_few c.args.limits (states_in c.
 pub memory_count-memory-requires : goal.memory_count-memory-requires
 memory_count-memory-requires c =
     let few = few_items c.args.limits (states_in c.args.told.now.automaton) c.requires.ground c.args.transitions c.requires.circle in
-    rw (c.as_slice-4.ensures, c.in_ok-items.ensures, c.as_slice.ensures) (omega (arith, few))
+    rw (c.as_slice-3.ensures, c.in_ok-items.ensures, c.as_slice.ensures) (omega (arith, few))
 
 pub overflow_cast-items : goal.overflow_cast-items
 overflow_cast-items c =
@@ -57,17 +58,20 @@ recurrence-requires-clause-count c =
 
 pub greatest_count-requires : goal.greatest_count-requires
 greatest_count-requires c =
-    let few = few_told c.args.limits (states_in c.args.told.now.automaton) c.requires.ground (tellings_in c.args.told.now.rows) c.args.transitions c.requires.circle in
-    rw (c.as_slice-6.ensures, c.in_ok-origins.ensures, c.as_slice-3.ensures) (omega (arith, few))
+    let few = few_told c.args.limits (states_in c.args.told.now.automaton) c.requires.ground (nat_eq c.len-tests.result 0) (tellings_in c.args.told.now.rows) c.args.transitions c.requires.circle in
+    rw (c.as_slice-6.ensures, c.in_ok-origins.ensures, c.as_slice-4.ensures) (omega (arith, few))
 
 pub returns-clause-is : goal.returns-clause-is
 returns-clause-is c =
     let states = states_in c.args.told.now.automaton in
     let tellings = tellings_in c.args.told.now.rows in
+    let tests = c.in_ok-tests.ensures ∙ ap (tests_along states) c.as_slice-2.ensures in
+    let count = c.len-tests.ensures ∙ ap (λ (l : List Operand). length l) tests in
     is_cycle c.args.limits states c.requires.ground tellings _ c.in_ok-items.items c.in_ok-tests.tests c.in_ok-origins.origins c.requires.circle
     (c.in_ok-items.ensures ∙ ap (items_along states) c.as_slice.ensures)
-    (c.in_ok-tests.ensures ∙ ap (tests_along states) c.as_slice-2.ensures)
-    (c.in_ok-origins.ensures ∙ ap (origins_along states tellings) c.as_slice-3.ensures)
-    c.len-items.ensures c.len-tests.ensures (c.memory_count-memory.ensures ∙ ap (count_by is_memory) c.as_slice-4.ensures)
+    tests
+    (c.in_ok-origins.ensures ∙ ap (origins_along _ states tellings) c.as_slice-4.ensures
+    ∙ ap (λ (n : ℕ). origins_along (nat_eq n 0) states tellings c.args.transitions) count)
+    c.len-items.ensures c.len-tests.ensures (c.memory_count-memory.ensures ∙ ap (count_by is_memory) c.as_slice-3.ensures)
     (rw c.as_slice-6.ensures at c.greatest_count.ensures) c.resource_bound-least_rows.ensures c.scarcest.ensures
     (rw c.as_slice-5.ensures at c.in_ok-chain.ensures)
