@@ -1,10 +1,8 @@
-pub mod States
 pub mod Searches
 pub mod InTurn
+pub mod Held
 pub mod Writable
 pub mod Chosen
 pub mod Told
 pub mod EachState
-pub mod Shown
-pub mod Whole
-pub mod GraphNodes
+pub mod Origins

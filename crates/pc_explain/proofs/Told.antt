@@ -6,6 +6,7 @@ use Rattle.pc_word.specs.declared.item.Extent.{Extent}
 use Rattle.pc_word.specs.declared.item.Limits.{Limits}
 use Rattle.pc_word.specs.MachineLimits.{most_rows}
 use Rattle.pc_word.proofs.Lists.{all_at, all_both, all_imply}
+use Rattle.pc_flow.specs.FlowGraph.{FlowGraph}
 use Rattle.pc_table.specs.Table.{Table}
 use Rattle.pc_table.specs.TableKeeps.{TableKeeps}
 use Rattle.pc_window.specs.Steps.{Positive}
@@ -24,7 +25,7 @@ use Rattle.pc_compile.proofs.Taken.{next_is_free}
 use Rattle.pc_explain.specs.Explained.{LoopSchedule, Explanation, search_extent, IsScheduleFor, IsExplained, AreExplained, none_left, passed_over, explained}
 use Rattle.pc_explain.specs.Laws.{IsFormTold, ToldStatesAreEmitted, ExplanationsTellForms}
 
-module _ (table : Table) (keeps : TableKeeps table) (initial : List (List ℤ)) (limits : Limits) (room : Positive limits) (extent : Extent) where
+module _ (table : Table) (keeps : TableKeeps table) (initial : List (List ℤ)) (limits : Limits) (room : Positive limits) (extent : Extent) (flow : FlowGraph) where
   -- a search that finds states again finds the same
   found_again : (region number rows : ℕ) (states : List AutomatonState) (registers : Registers) (schedule : LoopSchedule)
       → IsPattern (rules_for table limits number) region rows states → IsPattern (rules_for table limits number) region rows schedule.states
@@ -35,7 +36,7 @@ module _ (table : Table) (keeps : TableKeeps table) (initial : List (List ℤ)) 
   -- the schedule of the form that a region gets
   gets_told : (region : ℕ) (bytes : RegionForm → ℕ) (chosen : RegionForm) (kind : Form) (causes : List Cause)
       → Gets table limits extent region bytes chosen kind causes
-      → (schedule : Option LoopSchedule) → IsScheduleFor table limits region (search_extent extent kind) schedule → IsFormTold schedule (Some chosen)
+      → (schedule : Option LoopSchedule) → IsScheduleFor flow table limits region (search_extent extent kind) schedule → IsFormTold schedule (Some chosen)
   gets_told region bytes chosen kind causes (Gets_pipelined {states} {registers} may has short) None is = absurd is
   gets_told region bytes chosen kind causes (Gets_pipelined {states} {registers} may has short) (Some schedule) is =
       found_again region extent.window extent.rows states registers schedule has.found.pattern is.found.pattern
@@ -49,7 +50,7 @@ module _ (table : Table) (keeps : TableKeeps table) (initial : List (List ℤ)) 
   record HasFormTold (forms : ℕ → Option RegionForm) (choice : Choice) : Type 0 where
     form : RegionForm
     has : forms choice.region ≡ Some form
-    told : (schedule : Option LoopSchedule) → IsScheduleFor table limits choice.region (search_extent extent choice.form) schedule → IsFormTold schedule (Some form)
+    told : (schedule : Option LoopSchedule) → IsScheduleFor flow table limits choice.region (search_extent extent choice.form) schedule → IsFormTold schedule (Some form)
 
   -- each choice keeps its form while further regions get theirs, since no region is taken again
   each_told : (found : List ℕ) (choices : List Choice) (forms : ℕ → Option RegionForm)
@@ -66,12 +67,12 @@ module _ (table : Table) (keeps : TableKeeps table) (initial : List (List ℤ)) 
 
   -- what explains a choice tells its form, and so do the explanations of all
   one_told : (forms : ℕ → Option RegionForm) (line : ℕ) (choice : Choice) (explanation : Explanation) → HasFormTold forms choice
-      → IsExplained table limits extent line choice explanation → IsFormTold explanation.schedule (forms choice.region)
+      → IsExplained flow table limits extent line choice explanation → IsFormTold explanation.schedule (forms choice.region)
   one_told forms line choice explanation it is =
       subst (λ (form : Option RegionForm). IsFormTold explanation.schedule form) (sym it.has) (it.told explanation.schedule is.scheduled)
 
   all_told : (forms : ℕ → Option RegionForm) {asked : Option ℕ} {choices : List Choice} {explanations : List Explanation}
-      → AllByRecursion (HasFormTold forms) choices → AreExplained table limits extent asked choices explanations
+      → AllByRecursion (HasFormTold forms) choices → AreExplained flow table limits extent asked choices explanations
       → AllByRecursion (λ it. IsFormTold it.schedule (forms it.region)) explanations
   all_told forms each none_left = tt
   all_told forms each (passed_over none rest) = all_told forms each.1 rest
@@ -81,11 +82,11 @@ module _ (table : Table) (keeps : TableKeeps table) (initial : List (List ℤ)) 
   )
 
 pub told_are_emitted : ToldStatesAreEmitted
-told_are_emitted table keeps initial limits room extent choices forms are place choice there line explanation is =
-    let each = each_told table keeps initial limits room extent are.found choices forms are.choosing in
-    let it = all_at (HasFormTold table keeps initial limits room extent forms) choices place choice each there in
-    one_told table keeps initial limits room extent forms line choice explanation it is
+told_are_emitted table keeps initial limits room extent choices forms are place choice there flow line explanation is =
+    let each = each_told table keeps initial limits room extent flow are.found choices forms are.choosing in
+    let it = all_at (HasFormTold table keeps initial limits room extent flow forms) choices place choice each there in
+    one_told table keeps initial limits room extent flow forms line choice explanation it is
 
 pub explanations_tell_forms : ExplanationsTellForms
-explanations_tell_forms table keeps initial limits room extent choices forms are asked explanations is =
-    all_told table keeps initial limits room extent forms (each_told table keeps initial limits room extent are.found choices forms are.choosing) is
+explanations_tell_forms table keeps initial limits room extent choices forms are flow asked explanations is =
+    all_told table keeps initial limits room extent flow forms (each_told table keeps initial limits room extent flow are.found choices forms are.choosing) is

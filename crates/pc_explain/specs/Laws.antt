@@ -3,6 +3,7 @@ use Rattle.std.specs.Prelude.{◌≡◌, ℕ, ℤ, List, Option, Some, None, sli
 use Rattle.std.specs.List.{AllByRecursion}
 use Rattle.pc_word.specs.declared.item.Extent.{Extent}
 use Rattle.pc_word.specs.declared.item.Limits.{Limits}
+use Rattle.pc_flow.specs.FlowGraph.{FlowGraph}
 use Rattle.pc_table.specs.Table.{Table}
 use Rattle.pc_table.specs.TableKeeps.{TableKeeps}
 use Rattle.pc_window.specs.Steps.{Positive}
@@ -22,11 +23,11 @@ abbrev pub ToldStatesAreEmitted : Type 0
 ToldStatesAreEmitted = (table : Table) → TableKeeps table → (initial : List (List ℤ)) (limits : Limits) → Positive limits → (extent : Extent)
     (choices : List Choice) (forms : ℕ → Option RegionForm) → AreChosen table initial limits extent choices forms
     → (place : ℕ) (choice : Choice) → slice_get choices place ≡ Some choice
-    → (line : ℕ) (explanation : Explanation) → IsExplained table limits extent line choice explanation → IsFormTold explanation.schedule (forms choice.region)
+    → (flow : FlowGraph) (line : ℕ) (explanation : Explanation) → IsExplained flow table limits extent line choice explanation → IsFormTold explanation.schedule (forms choice.region)
 
 -- so do the explanations of all choices, each by the region that is its loop's header
 abbrev pub ExplanationsTellForms : Type 0
 ExplanationsTellForms = (table : Table) → TableKeeps table → (initial : List (List ℤ)) (limits : Limits) → Positive limits → (extent : Extent)
     (choices : List Choice) (forms : ℕ → Option RegionForm) → AreChosen table initial limits extent choices forms
-    → (asked : Option ℕ) (explanations : List Explanation) → AreExplained table limits extent asked choices explanations
+    → (flow : FlowGraph) (asked : Option ℕ) (explanations : List Explanation) → AreExplained flow table limits extent asked choices explanations
     → AllByRecursion (λ it. IsFormTold it.schedule (forms it.region)) explanations

@@ -1,9 +1,10 @@
 pub mod models
-pub mod Explained
+pub mod Legends
+pub mod Naming
 pub mod Words
-pub mod Text
+pub mod Waits
+pub mod Heading
+pub mod Explained
 pub mod EachState
-pub mod Graph
-pub mod GraphLaws
-pub mod Json
+pub mod Links
 pub mod Laws

@@ -12,11 +12,13 @@ use crate::LoopExplanationList;
 use crate::explanation::LoopExplanation;
 use crate::searching::{schedule, search_extent};
 use pc_compile::Choice;
+use pc_flow::Flow;
 use pc_table::RegionTable;
 use pc_word::{Extent, Limits, OutOfMemory};
 use std::alloc::Global;
 
-/// What the compiler found for each innermost loop of a table of which it gave these choices, within these limits and this extent:
+/// What the compiler found for each innermost loop of a flow graph's table of which it gave these choices, within these limits and this
+/// extent:
 /// in the order of the choices, one explanation for each region that heads such a loop. With a line, a line of the source counted from
 /// 1, only loops whose keyword stands at it are explained.
 ///
@@ -26,6 +28,7 @@ use std::alloc::Global;
 /// It takes one search for each loop whose form is not plain, the one that found the form. It fails where memory runs out.
 pub fn explain_loops(
     alloc: Global,
+    flow: &Flow,
     table: &RegionTable,
     choices: &[Choice],
     limits: Limits,
@@ -35,13 +38,13 @@ pub fn explain_loops(
     requires limits { AreLimits limits }
     requires extent { IsExtent extent }
     requires chosen { HasChosen (table_of table.now) limits extent choices.now }
-    ensures explained { IfOk result (λ loops. AreExplained (table_of table.now) limits extent line choices.now (explanations_in loops)) }
+    ensures explained { IfOk result (λ loops. AreExplained flow.now (table_of table.now) limits extent line choices.now (explanations_in loops)) }
     ensures can { IfOk result (λ loops. AllByRecursion (CanBeWritten limits) (explanations_in loops)) }
 {
     let mut loops = LoopExplanationList::new(alloc);
     for choice in choices {
         if let Some(at) = line_asked(table, line, choice.region) {
-            let explanation = explain(alloc, table, choice, limits, extent, at)?;
+            let explanation = explain(alloc, flow, table, choice, limits, extent, at)?;
             loops.push(explanation)?;
         }
     }
@@ -51,6 +54,7 @@ pub fn explain_loops(
 /// What was found for the loop at a line whose header is the region of a choice.
 fn explain(
     alloc: Global,
+    flow: &Flow,
     table: &RegionTable,
     choice: &Choice,
     limits: Limits,
@@ -61,11 +65,11 @@ fn explain(
     requires limits { AreLimits limits }
     requires extent { IsExtent extent }
     requires searched { IsSearched (table_of table.now) limits choice.now.region (search_extent extent choice.now.form) }
-    ensures { IfOk result (λ it. IsExplained (table_of table.now) limits extent line choice.now (explanation_in it)) }
+    ensures { IfOk result (λ it. IsExplained flow.now (table_of table.now) limits extent line choice.now (explanation_in it)) }
 {
     let schedule = match search_extent(extent, choice.form) {
         None => None,
-        Some(extent) => Some(schedule(alloc, table, choice.region, limits, extent)?),
+        Some(extent) => Some(schedule(alloc, flow, table, choice.region, limits, extent)?),
     };
     Ok(LoopExplanation {
         region: choice.region,

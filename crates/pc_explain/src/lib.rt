@@ -1,31 +1,32 @@
 //! What the compiler found for each innermost loop, explained: the form that it got and what decided it, and the schedule, state by
-//! state, with the iteration of each item and test and the line of the source that it comes from.
+//! state, with the iteration of each item and test and the line of the source that it comes from, what waits and why, and the cycles of
+//! states with their bounds. The parts of a row in words stand here too, for all who write explanations.
 #![tactic(auto)]
 
-mod cells;
 mod counts;
-mod drawing;
-mod edges;
 mod explaining;
 mod explanation;
-mod graph;
-mod graph_laws;
-mod json;
-mod json_row;
+mod heading;
 mod laws;
 mod leaves;
+mod legend;
+mod links;
+mod naming;
 mod searching;
-mod text;
+mod waits;
 mod words;
 
 pub use explaining::explain_loops;
-pub use explanation::LoopExplanation;
-pub use graph::explanation_graph;
-pub use graph_laws::law_of_graphs;
-pub use json::explanation_json;
+pub use explanation::{LoopExplanation, Schedule, StateView};
+pub use heading::push_heading;
 pub use laws::law_of_explained_loops;
+pub use leaves::push_leaf;
+pub use legend::Legend;
+pub use links::link_line;
+pub use naming::StateNaming;
 use pc_word::Seq;
-pub use text::explanation_text;
+pub use waits::{KindWords, ObstacleWords, resource_words};
+pub use words::{HomeWords, ItemWords, OperandWords, PlaceWords, place, push_no_loop_words, shown};
 
 /// Explanations of loops, in the order in which the compiler took their regions.
 pub type LoopExplanationList = Seq<LoopExplanation>;

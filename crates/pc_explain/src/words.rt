@@ -1,59 +1,79 @@
 //! Items and tests in words.
-ghost use Rattle.std.specs.Prelude.{◌≡◌, Some, slice_get};
-ghost use Rattle.pc_explain.specs.Words.{operand_words, item_words, home_words, place_words};
+ghost use Rattle.std.specs.Prelude.{◌≡◌, ◌++◌, OnOk, Some, slice_get, string_bytes};
+ghost use Rattle.pc_explain.specs.Legends.{legend_in};
+ghost use Rattle.pc_explain.specs.Naming.{naming_in};
+ghost use Rattle.pc_explain.specs.Words.{operand_words, item_words, home_words, place_words, no_loop_words};
 
+use crate::legend::{ArrayWords, Legend, VariableWords};
+use crate::naming::{StateNaming, named};
 use pc_view::operator_words;
 use pc_window::Home;
 use pc_word::{Item, Operand};
+use std::alloc::AllocError;
 use std::fmt;
 
-/// An operand that is to be written.
+/// An operand of a state that is to be written: a name, or a literal in decimal digits.
 #[derive(Clone, Copy)]
-pub(crate) struct OperandWords {
+pub struct OperandWords<'a> {
+    pub naming: StateNaming<'a>,
     pub operand: Operand,
 }
 
-/// An item that is to be written.
+/// An item of a state that is to be written: what it writes or does, and the operands that it reads.
 #[derive(Clone, Copy)]
-pub(crate) struct ItemWords {
+pub struct ItemWords<'a> {
+    pub naming: StateNaming<'a>,
     pub item: Item,
 }
 
 /// The value of a variable that is to be written.
 #[derive(Clone, Copy)]
-pub(crate) struct HomeWords {
+pub struct HomeWords<'a> {
+    pub naming: StateNaming<'a>,
     pub home: Home,
 }
 
-/// The iteration of an item or test and the line of the source that it comes from, if it is known, which are to be written.
+/// Where an item or test comes from, which is to be written: its iteration, and the line of the source, if it is known.
 #[derive(Clone, Copy)]
-pub(crate) struct PlaceWords {
+pub struct PlaceWords {
     pub iteration: u32,
     pub line: Option<u32>,
 }
 
-impl fmt::Display for OperandWords {
-    ghost output = { λ words. Some (operand_words words.operand) };
+/// An operand that is to be written.
+pub fn shown<'a>(naming: StateNaming<'a>, operand: Operand) -> OperandWords<'a>
+    ensures { result ≡ record { naming = naming.entry; operand = operand } }
+{
+    OperandWords { naming, operand }
+}
+
+/// Where an item or test of an iteration comes from, by the node of the flow graph.
+pub fn place(legend: &Legend, iteration: u32, origin: u32) -> PlaceWords
+    ensures { result ≡ record { iteration = iteration; line = slice_get legend.now.lines origin } }
+{
+    let line = legend.line(origin);
+    PlaceWords { iteration, line }
+}
+
+impl<'a> fmt::Display for OperandWords<'a> {
+    ghost output = { λ words. Some (operand_words (naming_in words.naming) words.operand) };
 
     fn fmt<W: fmt::Write>(&self, f: &mut fmt::Formatter<W>) -> fmt::Result {
         match self.operand {
-            Operand::Name(name) => write!(f, "n{name}"),
+            Operand::Name(name) => {
+                let name = named(self.naming, name);
+                write!(f, "{name}")
+            }
             Operand::Lit(value) => write!(f, "{value}"),
         }
     }
 }
 
-/// An operand that is to be written.
-pub(crate) fn shown(operand: Operand) -> OperandWords
-    ensures { result ≡ record { operand = operand } }
-{
-    OperandWords { operand }
-}
-
-impl fmt::Display for ItemWords {
-    ghost output = { λ words. Some (item_words words.item) };
+impl<'a> fmt::Display for ItemWords<'a> {
+    ghost output = { λ words. Some (item_words (naming_in words.naming) words.item) };
 
     fn fmt<W: fmt::Write>(&self, f: &mut fmt::Formatter<W>) -> fmt::Result {
+        let (naming, legend) = (self.naming, self.naming.legend);
         match self.item {
             Item::Bin {
                 op,
@@ -61,44 +81,54 @@ impl fmt::Display for ItemWords {
                 left,
                 right,
             } => {
-                let op = operator_words(op);
-                let (left, right) = (shown(left), shown(right));
-                write!(f, "n{dest} = {left} {op} {right}")
+                let (dest, op) = (named(naming, dest), operator_words(op));
+                let (left, right) = (shown(naming, left), shown(naming, right));
+                write!(f, "{dest} = {left} {op} {right}")
             }
             Item::Copy { dest, from } => {
-                let from = shown(from);
-                write!(f, "n{dest} = {from}")
+                let (dest, from) = (named(naming, dest), shown(naming, from));
+                write!(f, "{dest} = {from}")
             }
             Item::Load { dest, array, index } => {
-                let index = shown(index);
-                write!(f, "n{dest} = a{array}[{index}]")
+                let (dest, index) = (named(naming, dest), shown(naming, index));
+                let array = ArrayWords { legend, array };
+                write!(f, "{dest} = {array}[{index}]")
             }
             Item::Store {
                 array,
                 index,
                 value,
             } => {
-                let (index, value) = (shown(index), shown(value));
-                write!(f, "a{array}[{index}] = {value}")
+                let (index, value) = (shown(naming, index), shown(naming, value));
+                let array = ArrayWords { legend, array };
+                write!(f, "{array}[{index}] = {value}")
             }
             Item::Print { value } => {
-                let value = shown(value);
+                let value = shown(naming, value);
                 write!(f, "print({value})")
             }
-            Item::Read { dest } => write!(f, "n{dest} = read()"),
-            Item::More { dest } => write!(f, "n{dest} = more()"),
+            Item::Read { dest } => {
+                let dest = named(naming, dest);
+                write!(f, "{dest} = read()")
+            }
+            Item::More { dest } => {
+                let dest = named(naming, dest);
+                write!(f, "{dest} = more()")
+            }
         }
     }
 }
 
-impl fmt::Display for HomeWords {
-    ghost output = { λ words. Some (home_words words.home) };
+impl<'a> fmt::Display for HomeWords<'a> {
+    ghost output = { λ words. Some (home_words (naming_in words.naming) words.home) };
 
     #[tactic(auto, unfolding(crate::specs::Words::home_words))]
     fn fmt<W: fmt::Write>(&self, f: &mut fmt::Formatter<W>) -> fmt::Result {
         let Home { variable, value } = self.home;
-        let value = shown(value);
-        write!(f, "v{variable} = {value}")
+        let legend = self.naming.legend;
+        let variable = VariableWords { legend, variable };
+        let value = shown(self.naming, value);
+        write!(f, "{variable} = {value}")
     }
 }
 
@@ -108,16 +138,18 @@ impl fmt::Display for PlaceWords {
     fn fmt<W: fmt::Write>(&self, f: &mut fmt::Formatter<W>) -> fmt::Result {
         let iteration = self.iteration;
         match self.line {
-            None => write!(f, "+{iteration}: "),
-            Some(line) => write!(f, "+{iteration} line {line}: "),
+            None => write!(f, "+{iteration}"),
+            Some(line) => write!(f, "+{iteration} line {line}"),
         }
     }
 }
 
-/// What stands in front of an item or test of an iteration that comes from a node of the flow graph, by the line of each node.
-pub(crate) fn place(lines: &[u32], iteration: u32, origin: u32) -> PlaceWords
-    ensures { result ≡ record { iteration = iteration; line = slice_get lines.now origin } }
+/// Appends to a text that there is no innermost loop, or none at the line that is asked for.
+pub fn push_no_loop_words(text: &mut String, asked: Option<u32>) -> Result<(), AllocError>
+    ensures { OnOk result (string_bytes text.new ≡ string_bytes text.old ++ no_loop_words asked) }
 {
-    let line = lines.get(origin as usize).copied();
-    PlaceWords { iteration, line }
+    match asked {
+        None => text.push_str("no innermost loop"),
+        Some(line) => write!(text, "no innermost loop at line {line}"),
+    }
 }

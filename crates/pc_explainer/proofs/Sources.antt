@@ -4,7 +4,10 @@ use Rattle.std.specs.Borrow.{Bor}
 use Rattle.std.specs.Prelude.{MatchResult, Result, Ok, Err, Vec}
 use Rattle.std.specs.declared.alloc.Global.{Global}
 use Rattle.pc_syntax.specs.Source.{ResolvedProgram}
+use Rattle.pc_calls.specs.Inlining.{inlined_unit}
 use Rattle.pc_check.specs.Sizes.{resolved_size}
+use Rattle.pc_lexer.specs.Tokens.{names_of_text}
+use Rattle.pc_names.specs.Spellings.{ProgramNames, names_of}
 use Rattle.pc_flow.specs.FlowGraph.{FlowGraph}
 use Rattle.pc_compile.specs.Compiled.{IsUncompiled}
 use Rattle.pc_compile.specs.declared.error.CompileError.TheVariants as compile
@@ -16,7 +19,7 @@ use Rattle.pc_report.specs.declared.fault.SourceFault.TheVariants.{TooLarge, Too
 use Rattle.pc_report.specs.declared.fault.ToolFault.{ToolFault}
 use Rattle.pc_report.specs.declared.fault.ToolFault.TheVariants as fault
 use Rattle.pc_source.specs.Files.{HasSource}
-use Rattle.pc_source.specs.Reading.{FailsToRead, Not_read, Too_long, IsChecked}
+use Rattle.pc_source.specs.Reading.{FailsToRead, Not_read, Too_long, HasNames, IsChecked}
 use Rattle.pc_source.specs.SourceFaults.{HasFault}
 use Rattle.pc_source.specs.declared.source.SourceError.TheVariants as error
 use Rattle.pc_source.proofs.CheckedTexts.{is_source, is_too_large}
@@ -37,12 +40,14 @@ pub ruleset programs_due = (program_lacks, program_too_large)
 
 -- ---- of its text
 
-text_explained : (Passed : FlowGraph → FlowGraph → Type 0) (request : ExplainRequest) (text : List ℕ) (checked : ResolvedProgram) (explanation : List ℕ)
-    → IsChecked text checked → ExplainsProgram Passed request checked explanation → ExplainsText Passed request text explanation
-text_explained Passed request text checked explanation it program = record {
-  unit = it.unit;
-  is = is_source text checked it program.compiled.lowered.few;
-  program = subst (λ (p : ResolvedProgram). ExplainsProgram Passed request p explanation) (sym it.is_resolved) program;
+text_explained : (Passed : FlowGraph → FlowGraph → Type 0) (request : ExplainRequest) (text : List ℕ) (checked : ResolvedProgram) (names : ProgramNames)
+    (explanation : List ℕ) → HasNames text checked names → ExplainsProgram Passed request checked names explanation
+    → ExplainsText Passed request text explanation
+text_explained Passed request text checked names explanation it program = record {
+  unit = it.is.unit;
+  is = is_source text checked it.is program.compiled.lowered.few;
+  program = subst (λ (p : ResolvedProgram). ExplainsProgram Passed request p (names_of (names_of_text text) (inlined_unit it.is.unit)) explanation)
+      (sym it.is.is_resolved) (subst (λ (n : ProgramNames). ExplainsProgram Passed request checked n explanation) it.named program);
 }
 
 pub text_lacks : (text : List ℕ) → StopsAtText text (fault.NoMemory Pexplain)
@@ -58,12 +63,12 @@ program_stops text checked due it (Program_too_large {nodes} many is) =
     Text_faulty (subst (λ (nodes : ℕ). HasFault text (TooLarge nodes)) (sym is) (is_too_large text checked it many))
 
 -- what comes of its program
-pub program_result : (Passed : FlowGraph → FlowGraph → Type 0) (request : ExplainRequest) (text : List ℕ) (checked : ResolvedProgram) (result : Result (Vec ℕ Global) ToolFault)
-    → IsChecked text checked
-    → MatchResult result (λ it. ExplainsProgram Passed request checked it.items) (λ due. StopsAtProgram (resolved_size checked) due)
+pub program_result : (Passed : FlowGraph → FlowGraph → Type 0) (request : ExplainRequest) (text : List ℕ) (checked : ResolvedProgram) (names : ProgramNames)
+    (result : Result (Vec ℕ Global) ToolFault) → HasNames text checked names
+    → MatchResult result (λ it. ExplainsProgram Passed request checked names it.items) (λ due. StopsAtProgram (resolved_size checked) due)
     → MatchResult result (λ it. ExplainsText Passed request text it.items) (λ due. StopsAtText text due)
-program_result Passed request text checked (Ok it) is explains = text_explained Passed request text checked it.items is explains
-program_result Passed request text checked (Err due) is stops = program_stops text checked due is stops
+program_result Passed request text checked names (Ok it) is explains = text_explained Passed request text checked names it.items is explains
+program_result Passed request text checked names (Err due) is stops = program_stops text checked due is.is stops
 
 pub ruleset texts_due = (text_lacks, text_faulty)
 

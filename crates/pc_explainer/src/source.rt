@@ -6,7 +6,8 @@ ghost use Rattle.pc_command.specs.Requests.{explain_request, source_place};
 ghost use Rattle.pc_compile.specs.Compiled.{IsUncompiled};
 ghost use Rattle.std.specs.List.{AllByRecursion};
 ghost use Rattle.pc_explain.specs.Explained.{explanations_in, CanBeWritten, HasChosen};
-ghost use Rattle.pc_lines.specs.Lines.{lines_of};
+ghost use Rattle.pc_explain.specs.Legends.{legend_in};
+ghost use Rattle.pc_names.specs.Spellings.{names_in};
 ghost use Rattle.pc_outside.specs.Shelf.{ReadKeeps};
 ghost use Rattle.pc_pass.specs.Pass.{Chain, EachRose};
 ghost use Rattle.pc_table.specs.StoredTable.{table_of};
@@ -15,17 +16,17 @@ ghost use Rattle.pc_word.specs.SourceLimits.{most_source};
 ghost use Rattle.pc_explainer.specs.Explanations.{told_as, ExplainsLoops, ExplainsProgram};
 ghost use Rattle.pc_explainer.specs.models.Explaining.{ExplainsSource, ExplainsText, StopsAtProgram, StopsAtSource, StopsAtText};
 
-use pc_check::Checked;
 use pc_command::{ExplainCommand, ExplainMode};
 use pc_compile::{CompileError, Compiled, compile};
-use pc_explain::{
-    LoopExplanation, explain_loops, explanation_graph, explanation_json, explanation_text,
-};
-use pc_lines::{LineList, lines};
+use pc_explain::{Legend, LoopExplanation, explain_loops};
+use pc_explain_graph::explanation_graph;
+use pc_explain_json::explanation_json;
+use pc_explain_text::explanation_text;
+use pc_lines::lines;
 use pc_outside::Shelf;
 use pc_pass::Pass;
 use pc_report::{SourceFault, Speaker, ToolFault};
-use pc_source::{Refusal, SourceError, read_program, read_source};
+use pc_source::{NamedProgram, Refusal, SourceError, read_named, read_source};
 use pc_word::{Limits, OutOfMemory};
 use std::alloc::{AllocError, Global};
 
@@ -79,8 +80,8 @@ fn explanation_of_text<'a, P: Pass>(
     ensures named { map P.label passes.new.items ≡ map P.label passes.old.items }
     ensures ran { OnOk result (EachRose (map P.runs passes.old.items) (map P.runs passes.new.items)) }
 {
-    match read_program(alloc, text) {
-        Ok(checked) => explanation_of_program(alloc, &checked, command, passes),
+    match read_named(alloc, text) {
+        Ok(named) => explanation_of_program(alloc, named, command, passes),
         Err(Refusal::Source { fault }) => Err(ToolFault::Source {
             who: Speaker::Pexplain,
             fault,
@@ -95,19 +96,19 @@ fn explanation_of_text<'a, P: Pass>(
 #[tactic(auto, using(crate::proofs::Sources::programs_due))]
 fn explanation_of_program<'a, P: Pass>(
     alloc: Global,
-    checked: &Checked,
+    named: NamedProgram,
     command: ExplainCommand<'a>,
     passes: &mut Vec<P>,
 ) -> Result<Vec<u8>, ToolFault<'a>>
     requires limits { AreLimits command.limits }
     requires extent { IsExtent command.extent }
     ensures text { MatchResult result
-        (λ text. ExplainsProgram (Chain P.does P.changed passes.old.items passes.new.items) (explain_request command.entry) (resolved_of checked.now) text.items)
-        (λ fault. StopsAtProgram (resolved_size (resolved_of checked.now)) fault) }
+        (λ text. ExplainsProgram (Chain P.does P.changed passes.old.items passes.new.items) (explain_request command.entry) (resolved_of named.checked) (names_in named.names) text.items)
+        (λ fault. StopsAtProgram (resolved_size (resolved_of named.checked)) fault) }
     ensures named { map P.label passes.new.items ≡ map P.label passes.old.items }
     ensures ran { OnOk result (EachRose (map P.runs passes.old.items) (map P.runs passes.new.items)) }
 {
-    match compile_and_explain(alloc, checked, command, passes) {
+    match compile_and_explain(alloc, named, command, passes) {
         Ok(text) => Ok(text),
         Err(CompileError::TooLarge { nodes }) => Err(ToolFault::Source {
             who: Speaker::Pexplain,
@@ -123,27 +124,30 @@ fn explanation_of_program<'a, P: Pass>(
 #[tactic(auto, using(crate::proofs::Programs::compilations))]
 fn compile_and_explain<P: Pass>(
     alloc: Global,
-    checked: &Checked,
+    named: NamedProgram,
     command: ExplainCommand,
     passes: &mut Vec<P>,
 ) -> Result<Vec<u8>, CompileError>
     requires limits { AreLimits command.limits }
     requires extent { IsExtent command.extent }
     ensures text { IfOk result (λ text. ExplainsProgram (Chain P.does P.changed passes.old.items passes.new.items)
-        (explain_request command.entry) (resolved_of checked.now) text.items) }
-    ensures uncompiled { IfErr result (λ error. IsUncompiled (resolved_size (resolved_of checked.now)) error) }
+        (explain_request command.entry) (resolved_of named.checked) (names_in named.names) text.items) }
+    ensures uncompiled { IfErr result (λ error. IsUncompiled (resolved_size (resolved_of named.checked)) error) }
     ensures named { map P.label passes.new.items ≡ map P.label passes.old.items }
     ensures ran { OnOk result (EachRose (map P.runs passes.old.items) (map P.runs passes.new.items)) }
 {
-    let compiled = compile(alloc, checked, passes, command.limits, command.extent)?;
-    let text = explanation_of_compiled(alloc, checked, &compiled, command)?;
+    let NamedProgram { checked, names } = named;
+    let compiled = compile(alloc, &checked, passes, command.limits, command.extent)?;
+    let lines = lines(alloc, &checked)?;
+    let legend = Legend { lines, names };
+    let text = explanation_of_compiled(alloc, &legend, &compiled, command)?;
     Ok(text)
 }
 
-/// What explains a program that was compiled.
+/// What explains a program that was compiled, by the legend of its source.
 fn explanation_of_compiled(
     alloc: Global,
-    checked: &Checked,
+    legend: &Legend,
     compiled: &Compiled,
     command: ExplainCommand,
 ) -> Result<Vec<u8>, OutOfMemory>
@@ -151,7 +155,7 @@ fn explanation_of_compiled(
     requires extent { IsExtent command.extent }
     requires chosen { HasChosen (table_of compiled.now.table) command.limits command.extent compiled.now.choices }
     ensures { IfOk result (λ text. ExplainsLoops (explain_request command.entry)
-        (table_of compiled.now.table) compiled.now.choices (lines_of (resolved_of checked.now)) text.items) }
+        compiled.now.flow (table_of compiled.now.table) compiled.now.choices (legend_in legend.now) text.items) }
 {
     let ExplainCommand {
         limits,
@@ -160,10 +164,10 @@ fn explanation_of_compiled(
         mode,
         ..
     } = command;
+    let Compiled { flow, table, .. } = compiled;
     let choices = compiled.choices.as_slice();
-    let loops = explain_loops(alloc, &compiled.table, choices, limits, extent, line)?;
-    let lines = lines(alloc, checked)?;
-    Ok(told_as(alloc, mode, limits, &lines, line, loops.as_slice())?)
+    let loops = explain_loops(alloc, flow, table, choices, limits, extent, line)?;
+    Ok(told_as(alloc, mode, limits, legend, line, loops.as_slice())?)
 }
 
 /// Explanations in the form that is asked for.
@@ -171,16 +175,16 @@ fn told_as(
     alloc: Global,
     mode: ExplainMode,
     limits: Limits,
-    lines: &LineList,
+    legend: &Legend,
     line: Option<u32>,
     loops: &[LoopExplanation],
 ) -> Result<Vec<u8>, AllocError>
     requires { AllByRecursion (CanBeWritten limits) (explanations_in loops.now) }
-    ensures { IfOk result (λ text. text.items ≡ told_as mode limits lines.now line (explanations_in loops.now)) }
+    ensures { IfOk result (λ text. text.items ≡ told_as mode limits (legend_in legend.now) line (explanations_in loops.now)) }
 {
     match mode {
-        ExplainMode::Text => explanation_text(alloc, limits, lines, line, loops),
-        ExplainMode::Dot => explanation_graph(alloc, limits, lines, line, loops),
-        ExplainMode::Json => explanation_json(alloc, limits, lines, line, loops),
+        ExplainMode::Text => explanation_text(alloc, limits, legend, line, loops),
+        ExplainMode::Dot => explanation_graph(alloc, limits, legend, line, loops),
+        ExplainMode::Json => explanation_json(alloc, limits, legend, line, loops),
     }
 }

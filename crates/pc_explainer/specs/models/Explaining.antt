@@ -3,9 +3,7 @@ use Rattle.std.specs.Prelude.{◌≡◌, ℕ, ◌<◌, min, List, Option}
 use Rattle.std.specs.Borrow.{Bor}
 use Rattle.pc_word.specs.SourceLimits.{most_nodes}
 use Rattle.pc_syntax.specs.Unit.{TranslationUnit}
-use Rattle.pc_check.specs.Resolution.{resolved}
 use Rattle.pc_flow.specs.FlowGraph.{FlowGraph}
-use Rattle.pc_calls.specs.Inlining.{inlined_unit}
 use Rattle.pc_outside.specs.Shelf.{Files, ReadFaultOf, Shelved}
 use Rattle.pc_command.specs.Requests.{ExplainRequest, OfFile, SourcePlace}
 use Rattle.pc_report.specs.declared.fault.Speaker.TheVariants.{Pexplain}
@@ -16,7 +14,7 @@ use Rattle.pc_report.specs.declared.fault.ToolFault.TheVariants as fault
 use Rattle.pc_source.specs.Files.{HoldsSource}
 use Rattle.pc_source.specs.Source.{IsSource}
 use Rattle.pc_source.specs.SourceFaults.{HasFault}
-use Rattle.pc_explainer.specs.Explanations.{Explains, ExplainsProgram}
+use Rattle.pc_explainer.specs.Explanations.{Explains, ExplainsUnit}
 
 -- ---- what explains
 
@@ -24,7 +22,7 @@ use Rattle.pc_explainer.specs.Explanations.{Explains, ExplainsProgram}
 pub record ExplainsText (Passed : FlowGraph → FlowGraph → Type 0) (request : ExplainRequest) (text explanation : List ℕ) : Type 0 where
   pub unit : TranslationUnit
   pub is : IsSource text unit
-  pub program : ExplainsProgram Passed request (resolved (inlined_unit unit)) explanation
+  pub program : ExplainsUnit Passed request text unit explanation
 
 -- the source that is asked for is some unit's, and the text explains it
 pub record ExplainsSource (Passed : FlowGraph → FlowGraph → Type 0) (held : Option Files) (request : ExplainRequest) (text : List ℕ) : Type 0 where

@@ -17,10 +17,10 @@ pub loop-choice-preserved : goal.loop-choice-preserved
 loop-choice-preserved c =
     let table = table_of c.args.table.now in
     let at = c.loop-choice.choice-index in
-    let GoesTo = λ (loops : List LoopExplanation). GoesOn table c.args.limits c.args.extent c.args.line c.args.choices.now (at + 1) loops in
-    let goes_past' = goes_past table c.args.limits c.args.extent c.args.line c.args.choices.now at c.choice-item.result c.loop-choice.loops
+    let GoesTo = λ (loops : List LoopExplanation). GoesOn c.args.flow.now table c.args.limits c.args.extent c.args.line c.args.choices.now (at + 1) loops in
+    let goes_past' = goes_past c.args.flow.now table c.args.limits c.args.extent c.args.line c.args.choices.now at c.choice-item.result c.loop-choice.loops
     c.loop-choice-test.true c.choice-item.is c.loop-choice.invariant in
-    let goes_with' = goes_with table c.args.limits c.args.extent c.args.line c.args.choices.now at c.choice-item.result c.loop-choice.loops
+    let goes_with' = goes_with c.args.flow.now table c.args.limits c.args.extent c.args.line c.args.choices.now at c.choice-item.result c.loop-choice.loops
     c.loop-choice-test.true c.choice-item.is c.loop-choice.invariant in
     elim c.match-line_asked.branch [
       | in-Some+in_ok-explanation+in_ok-push w ↦
@@ -31,11 +31,11 @@ loop-choice-preserved c =
 
 pub returns-clause-explained : goal.returns-clause-explained
 returns-clause-explained c =
-    all_told (table_of c.args.table.now) c.args.limits c.args.extent c.args.line c.args.choices.now c.loop-choice.choice-index c.loop-choice.loops
+    all_told c.args.flow.now (table_of c.args.table.now) c.args.limits c.args.extent c.args.line c.args.choices.now c.loop-choice.choice-index c.loop-choice.loops
     c.loop-choice-test.false c.loop-choice.invariant
 
 pub returns-clause-can : goal.returns-clause-can
 returns-clause-can c =
-    all_can (table_of c.args.table.now) c.args.limits c.args.extent c.requires.extent
-    (all_told (table_of c.args.table.now) c.args.limits c.args.extent c.args.line c.args.choices.now c.loop-choice.choice-index c.loop-choice.loops
+    all_can c.args.flow.now (table_of c.args.table.now) c.args.limits c.requires.limits c.args.extent c.requires.extent
+    (all_told c.args.flow.now (table_of c.args.table.now) c.args.limits c.args.extent c.args.line c.args.choices.now c.loop-choice.choice-index c.loop-choice.loops
     c.loop-choice-test.false c.loop-choice.invariant)

@@ -1,7 +1,8 @@
 use Rattle.std.proofs.Common.{◌≡◌, ◌++◌, drop, string_bytes}
+use Rattle.pc_explain.specs.Naming.{naming_in}
 use Rattle.pc_explain.specs.Words.{homes_from}
 use Rattle.pc_explain.proofs.leaves.push_homes.Given as goal
 
 -- the text with the values from here on is the text at the start with all of them
 abbrev pub invariant-loop-place : goal.invariant-loop-place
-invariant-loop-place l = string_bytes l.text ++ homes_from l.place (drop l.place l.homes) ≡ string_bytes l.initial.text ++ homes_from 0 l.homes
+invariant-loop-place l = string_bytes l.text ++ homes_from (naming_in l.naming) l.place (drop l.place l.homes) ≡ string_bytes l.initial.text ++ homes_from (naming_in l.naming) 0 l.homes

@@ -1,0 +1,2 @@
+pub mod CycleJson
+pub mod Json

@@ -1,0 +1,4 @@
+pub mod models
+pub mod StateLines
+pub mod CycleLines
+pub mod Text
