@@ -1,9 +1,0 @@
-use Rattle.std.proofs.Common.{◌≡◌, map, take}
-use Rattle.serde_json.specs.View.{view}
-use Rattle.pc_explain.specs.Explained.{explanations_in}
-use Rattle.pc_explain.specs.Json.{loop_json}
-use Rattle.pc_explain.proofs.json.loops_value.Given as goal
-
--- those so far are in the list
-abbrev pub invariant-loop-explanation : goal.invariant-loop-explanation
-invariant-loop-explanation l = map view l.list.items ≡ map (loop_json l.lines) (explanations_in (take l.explanation-index l.loops))
