@@ -5,4 +5,6 @@ use Rattle.pc_explain.proofs.leaves.push_arguments.Given as goal
 
 -- the text with the arguments from here on is the text at the start with all of them
 abbrev pub invariant-loop-place : goal.invariant-loop-place
-invariant-loop-place l = string_bytes l.text ++ arguments_from (naming_in l.naming) l.place (drop l.place l.arguments) ≡ string_bytes l.initial.text ++ arguments_from (naming_in l.naming) 0 l.arguments
+invariant-loop-place l =
+    string_bytes l.text ++ arguments_from (naming_in l.naming) l.place (drop l.place l.arguments)
+    ≡ string_bytes l.initial.text ++ arguments_from (naming_in l.naming) 0 l.arguments

@@ -5,4 +5,6 @@ use Rattle.pc_explain.proofs.leaves.push_homes.Given as goal
 
 -- the text with the values from here on is the text at the start with all of them
 abbrev pub invariant-loop-place : goal.invariant-loop-place
-invariant-loop-place l = string_bytes l.text ++ homes_from (naming_in l.naming) l.place (drop l.place l.homes) ≡ string_bytes l.initial.text ++ homes_from (naming_in l.naming) 0 l.homes
+invariant-loop-place l =
+    string_bytes l.text ++ homes_from (naming_in l.naming) l.place (drop l.place l.homes)
+    ≡ string_bytes l.initial.text ++ homes_from (naming_in l.naming) 0 l.homes
