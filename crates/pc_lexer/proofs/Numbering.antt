@@ -152,13 +152,17 @@ numbered (Next before spelling (shape.Number value) others) count names tokens h
     let f = token_first count _ _ tokens _ (λ tokens h. cc) h in
     subst (λ l. Numbered names (names_after_cut names others) l (names_in others)) f.2 (passed_on (numbered others (count + 1) names f.0 f.1))
   where
-    passed_on : {rest : List Token} → Numbered names (names_after_cut names others) rest (names_in others) → Numbered names (names_after_cut names others) (record { kind = kind.Number value; line = line_behind before } ∷ rest) (names_in others)
+    passed_on : {rest : List Token}
+        → Numbered names (names_after_cut names others) rest (names_in others)
+        → Numbered names (names_after_cut names others) (record { kind = kind.Number value; line = line_behind before } ∷ rest) (names_in others)
     passed_on n = record { later = n.later; extends = n.extends; symbols = n.symbols; present = n.present; order = n.order }
 numbered (Next before spelling (shape.Mark mark) others) count names tokens h =
     let f = token_first count _ _ tokens _ (λ tokens h. cc) h in
     subst (λ l. Numbered names (names_after_cut names others) l (names_in others)) f.2 (passed_on (numbered others (count + 1) names f.0 f.1))
   where
-    passed_on : {rest : List Token} → Numbered names (names_after_cut names others) rest (names_in others) → Numbered names (names_after_cut names others) (record { kind = kind.Mark mark; line = line_behind before } ∷ rest) (names_in others)
+    passed_on : {rest : List Token}
+        → Numbered names (names_after_cut names others) rest (names_in others)
+        → Numbered names (names_after_cut names others) (record { kind = kind.Mark mark; line = line_behind before } ∷ rest) (names_in others)
     passed_on n = record { later = n.later; extends = n.extends; symbols = n.symbols; present = n.present; order = n.order }
 numbered (Next before spelling shape.Word others) count names tokens h = by (keyword_of spelling) h (λ names rest h. numbered others (count + 1) names rest h)
   where
@@ -174,7 +178,9 @@ numbered (Next before spelling shape.Word others) count names tokens h = by (key
         subst (λ l. Numbered names (names_after_cut names others) l (names_in others)) f.2 (record { later = n.later; extends = n.extends; symbols = n.symbols; present = n.present; order = n.order })
     by None h more =
         let f = token_first count _ _ tokens _ (λ tokens h. cc) h in
-        subst (λ l. Numbered names (names_after_cut (names_with names spelling) others) l (spelling ∷ names_in others)) f.2 (name_numbered names (names_after_cut (names_with names spelling) others) spelling f.0 (line_behind before) (names_in others) (more (names_with names spelling) f.0 f.1))
+        let after = names_after_cut (names_with names spelling) others in
+        let numbered_after = more (names_with names spelling) f.0 f.1 in
+        subst (λ l. Numbered names after l (spelling ∷ names_in others)) f.2 (name_numbered names after spelling f.0 (line_behind before) (names_in others) numbered_after)
 
 -- symbols of names that are used are the same where the names are
 slice_get-map : (f : List ℕ → ℕ) (names : List (List ℕ)) (i : ℕ) → i < length names → slice_get (map f names) i ≡ Some (f (get_or names i []))
