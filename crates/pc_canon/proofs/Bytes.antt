@@ -172,6 +172,12 @@ module _ (before one two three : List ℕ) (x y z : ℤ) where
 
 pub ruleset three = (three_added, three_kept)
 
+-- three numbers that are put behind others one by one are a list behind them
+pub one_by_one : (before one two three : List ℤ) (x y z : ℤ) → one ≡ before ++ x ∷ [] → two ≡ one ++ y ∷ [] → three ≡ two ++ z ∷ [] → three ≡ before ++ x ∷ y ∷ z ∷ []
+one_by_one before one two three x y z first second third =
+    third ∙ ap (λ (l : List ℤ). l ++ z ∷ []) (second ∙ ap (λ (l : List ℤ). l ++ y ∷ []) first ∙ append_assoc before (x ∷ []) (y ∷ []))
+    ∙ append_assoc before (x ∷ y ∷ []) (z ∷ [])
+
 -- ---- writing
 
 -- a digit is written, and the others stay to be written

@@ -29,7 +29,7 @@ use Rattle.pc_word.specs.Naming.{map_name}
 
 -- ---- names that correspond
 
-abbrev Corr : List Pair → ℕ → ℕ → Type 0
+abbrev pub Corr : List Pair → ℕ → ℕ → Type 0
 Corr names x y = corresponds names x y ≡ true
 
 one_way : (names : List Pair) (x y x' y' : ℕ) → Corr names x y → Corr names x' y' → x ≡ x' → y ≡ y'
@@ -87,7 +87,7 @@ outer_uses names (Some a) None both (one_more h t) = absurd both
 outer_uses names None (Some b) both (one_more h t) = absurd both
 
 -- uses of names that are not defined above them correspond
-uses_alike : {maps : Maps} {f g : ℕ → Form} {names : List Pair} {t u : Tree} → TreesAlike maps f g names t u → EachAlike (Corr names) (free_uses t) (free_uses u)
+pub uses_alike : {maps : Maps} {f g : ℕ → Form} {names : List Pair} {t u : Tree} → TreesAlike maps f g names t u → EachAlike (Corr names) (free_uses t) (free_uses u)
 uses_alike {names} (both_then {item} {item'} tags items dests below) = alike_append (item_uses items) (outer_uses names (dest_of item) (dest_of item') (both_or_neither items) (uses_alike below))
 uses_alike {names} (both_either {on} {on'} tags test on_yes on_no) = alike_append (operand_uses names on on' test) (alike_append (uses_alike on_yes) (uses_alike on_no))
 uses_alike {names} (both_exit {homes} {homes'} tags h) = home_uses names homes homes' h
@@ -106,7 +106,7 @@ kept_uses names x y p no_more = no_more
 kept_uses names x y p (one_more {a} {b} {xs} {ys} h t) = kept_step names (nat_eq x a) (nat_eq y b) a b (without_name (Some x) xs) (without_name (Some y) ys) (same_names names x y a b p h) h
     (kept_uses names x y p t)
 
-first_uses_alike : (names : List Pair) {xs ys : List ℕ} → EachAlike (Corr names) xs ys → EachAlike (Corr names) (first_uses xs) (first_uses ys)
+pub first_uses_alike : (names : List Pair) {xs ys : List ℕ} → EachAlike (Corr names) xs ys → EachAlike (Corr names) (first_uses xs) (first_uses ys)
 first_uses_alike names no_more = no_more
 first_uses_alike names (one_more {a} {b} h t) = one_more h (kept_uses names a b h (first_uses_alike names t))
 

@@ -1,14 +1,14 @@
 -- The columns of form variables, gathered a term at a time.
 use Rattle.std.proofs.Common.{◌≡◌, ℕ, zero, suc, ◌+◌, ◌<◌, List, [], ◌∷◌, ◌++◌, Some, None, length, drop, refl, sym, ◌∙◌, ap, subst, arith}
-use Rattle.std.specs.Prelude.{ℤ, pos, map, replicate, slice_get}
+use Rattle.std.specs.Prelude.{ℤ, map, replicate, slice_get}
 use Rattle.pc_linear.specs.declared.term.Term.{Term}
 use Rattle.pc_linear.specs.Form.{Form}
 use Rattle.pc_window.specs.Opening.{TermsBelow}
 use Rattle.pc_linear.proofs.FewPlaces.{few_places, fewer_places, none_from, one_from}
-use Rattle.pc_canon.specs.Canonical.{Constant, constant_in, columns_of}
+use Rattle.pc_canon.specs.Canonical.{constant_in, columns_of}
 use Rattle.pc_canon.specs.Key.{constant_numbers, column_numbers, list_numbers}
 use Rattle.pc_canon.specs.models.Gathered.{and_term, and_terms, with_factors, and_forms}
-use Rattle.pc_canon.specs.models.Written.{elements_numbers, forms_numbers}
+use Rattle.pc_canon.specs.models.Written.{forms_numbers}
 use Rattle.pc_canon.proofs.Codes.{joined}
 
 module _ (ts : List Term) (at : ℕ) where
@@ -55,57 +55,20 @@ and_forms-append place (f ∷ fs) gs columns =
     next : place + 1 + length fs ≡ place + suc (length fs)
     next = omega arith
 
-pub elements-append : (xs ys : List Constant) → elements_numbers constant_numbers (xs ++ ys) ≡ elements_numbers constant_numbers xs ++ elements_numbers constant_numbers ys
-elements-append [] ys = refl
-elements-append (x ∷ xs) ys = ap (λ (l : List ℤ). pos 1 ∷ (constant_numbers x ++ l)) (elements-append xs ys)
-
--- a list is its elements and the end
-pub list-elements : (xs : List Constant) → list_numbers constant_numbers xs ≡ elements_numbers constant_numbers xs ++ pos 0 ∷ []
-list-elements [] = refl
-list-elements (x ∷ xs) = ap (λ (l : List ℤ). pos 1 ∷ (constant_numbers x ++ l)) (list-elements xs)
-
-pub map-append : {A B : Type 0} (f : A → B) (xs ys : List A) → map f (xs ++ ys) ≡ map f xs ++ map f ys
-map-append f [] ys = refl
-map-append f (x ∷ xs) ys = ap (λ (l : List _). f x ∷ l) (map-append f xs ys)
-
 map-length : {A B : Type 0} (f : A → B) (xs : List A) → length (map f xs) ≡ length xs
 map-length f [] = refl
 map-length f (x ∷ xs) = ap suc (map-length f xs)
 
-module _ (forms : ℕ → Form) (place : ℕ) where
-  -- the forms of names of two trees
-  pub sides_gathered : (xs ys : List ℕ) (behind : ℕ) (columns mid new : List (List ℤ)) → behind ≡ place + length xs
-      → mid ≡ and_forms place (map forms xs) columns → new ≡ and_forms behind (map forms ys) mid → new ≡ and_forms place (map forms (xs ++ ys)) columns
-  sides_gathered xs ys behind columns mid new is first rest =
-      rest ∙ ap (λ (l : List (List ℤ)). and_forms behind (map forms ys) l) first
-      ∙ ap (λ (n : ℕ). and_forms n (map forms ys) (and_forms place (map forms xs) columns)) (is ∙ ap (λ (n : ℕ). place + n) (sym (map-length forms xs)))
-      ∙ sym (and_forms-append place (map forms xs) (map forms ys) columns)
-      ∙ ap (λ (fs : List Form). and_forms place fs columns) (sym (map-append forms xs ys))
-
-  pub sides_written : (xs ys : List ℕ) (old mid new : List ℤ) → mid ≡ old ++ elements_numbers constant_numbers (map constant_in (map forms xs))
-      → new ≡ mid ++ elements_numbers constant_numbers (map constant_in (map forms ys))
-      → new ≡ old ++ elements_numbers constant_numbers (map constant_in (map forms (xs ++ ys)))
-  sides_written xs ys old mid new first rest =
-      let a = map constant_in (map forms xs) in
-      let b = map constant_in (map forms ys) in
-      rest ∙ ap (λ (l : List ℤ). l ++ elements_numbers constant_numbers b) first
-      ∙ joined old (elements_numbers constant_numbers a) (elements_numbers constant_numbers b)
-      ∙ ap (λ (l : List ℤ). old ++ l) (sym (elements-append a b))
-      ∙ ap (λ (l : List Constant). old ++ elements_numbers constant_numbers l) (sym (map-append constant_in (map forms xs) (map forms ys)))
-      ∙ ap (λ (l : List Form). old ++ elements_numbers constant_numbers (map constant_in l)) (sym (map-append forms xs ys))
-
 -- ---- the forms of a window
 
 -- what is written of the forms, one part after the other
-pub constants_written : (parameters definitions : List Form) (old one two new : List ℤ) → one ≡ old ++ list_numbers constant_numbers (map constant_in parameters)
-    → two ≡ one ++ elements_numbers constant_numbers (map constant_in definitions) → new ≡ two ++ pos 0 ∷ []
-    → new ≡ old ++ (list_numbers constant_numbers (map constant_in parameters) ++ list_numbers constant_numbers (map constant_in definitions))
-constants_written parameters definitions old one two new p q r =
+pub constants_written : (parameters definitions : List Form) (old one two : List ℤ) → one ≡ old ++ list_numbers constant_numbers (map constant_in parameters)
+    → two ≡ one ++ list_numbers constant_numbers (map constant_in definitions)
+    → two ≡ old ++ (list_numbers constant_numbers (map constant_in parameters) ++ list_numbers constant_numbers (map constant_in definitions))
+constants_written parameters definitions old one two p q =
     let a = list_numbers constant_numbers (map constant_in parameters) in
-    let b = elements_numbers constant_numbers (map constant_in definitions) in
-    r ∙ ap (λ (l : List ℤ). l ++ pos 0 ∷ []) q ∙ joined one b (pos 0 ∷ []) ∙ ap (λ (l : List ℤ). one ++ l) (sym (list-elements (map constant_in definitions)))
-    ∙ ap (λ (l : List ℤ). l ++ list_numbers constant_numbers (map constant_in definitions)) p
-    ∙ joined old a (list_numbers constant_numbers (map constant_in definitions))
+    let b = list_numbers constant_numbers (map constant_in definitions) in
+    q ∙ ap (λ (l : List ℤ). l ++ b) p ∙ joined old a b
 
 pub all_forms_written : (parameters definitions : List Form) (old one new : List ℤ) (sorted : List (List ℤ))
     → one ≡ old ++ (list_numbers constant_numbers (map constant_in parameters) ++ list_numbers constant_numbers (map constant_in definitions))

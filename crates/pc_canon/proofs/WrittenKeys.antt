@@ -1,11 +1,12 @@
 -- What is written of a window are the numbers of its key.
-use Rattle.std.proofs.Common.{◌≡◌, ℕ, ◌<◌, ◌≤◌, List, [], ◌∷◌, ◌++◌, length, refl, sym, ◌∙◌, ap, subst}
+use Rattle.std.proofs.Common.{◌≡◌, ℕ, suc, ◌<◌, ◌≤◌, List, [], ◌∷◌, ◌++◌, length, length-append, Option, Some, None, refl, sym, ◌∙◌, ap, subst, arith}
+use Rattle.pc_word.specs.Items.{dest_of}
 use Rattle.std.specs.Prelude.{ℤ, Bool, true, false, ◌||◌, nat_eq, map, replicate}
 use Rattle.std.specs.List.{AllByRecursion}
 use Rattle.std.proofs.lemmas.Bool.{eqb-true}
 use Rattle.std.proofs.lemmas.Map.Steps.{length-le_from_distinct_below}
-use Rattle.pc_window.specs.Tree.{Tree, whole}
-use Rattle.pc_window.specs.Names.{definitions_of, parameters_of}
+use Rattle.pc_window.specs.Tree.{Tree, Pending, Undecided, Exit, Stop_exit, Trap_exit, whole, tree_size}
+use Rattle.pc_window.specs.Names.{named, definitions_of, parameters_of}
 use Rattle.pc_window.specs.Opening.{TreeBelow}
 use Rattle.pc_window.specs.Rebasing.{is_in}
 use Rattle.pc_window.specs.WindowRun.{Window}
@@ -31,6 +32,22 @@ each_below n (x ∷ xs) h q e = by (nat_eq q x) refl e (each_below n xs h.1 q)
 pub few_parameters : (n : ℕ) (tree : Tree) → TreeBelow n tree → length (parameters_of tree) ≤ n
 few_parameters n tree below =
     length-le_from_distinct_below (parameters_of tree) n (parameters_distinct tree) (each_below n (parameters_of tree) (parameters-below n tree below))
+
+-- and how many definitions
+pub few_definitions : (tree : Tree) → length (definitions_of tree) ≤ tree_size tree
+few_definitions (Pending tag origin item rest) = by (dest_of item) (few_definitions rest)
+  where
+    by : (d : Option ℕ) → length (definitions_of rest) ≤ tree_size rest → length (named d (definitions_of rest)) ≤ suc (tree_size rest)
+    by None h = omega (arith, h)
+    by (Some dest) h = omega (arith, h)
+few_definitions (Undecided tag origin on one other) =
+    let p = few_definitions one in
+    let q = few_definitions other in
+    let both = length-append (definitions_of one) (definitions_of other) in
+    omega (arith, p, q, both)
+few_definitions (Exit region tag homes) = omega arith
+few_definitions Stop_exit = omega arith
+few_definitions (Trap_exit kind line) = omega arith
 
 -- ---- the parts of a key
 

@@ -112,6 +112,7 @@ impl Column {
 }
 
 /// Writes what shows of the form at a place by itself, and adds its terms to their columns.
+#[inline(always)]
 pub(crate) fn add_form(
     form: &LinForm,
     place: u32,

@@ -1,33 +1,32 @@
 //! The forms of names in numbers.
-ghost use Rattle.std.specs.Prelude.{◌≡◌, ◌+◌, ◌<◌, ◌≤◌, ◌^◌, ◌∷◌, ◌++◌, [], ℕ, pos, length, map, replicate, OnOk, IfOk};
-ghost use Rattle.pc_window.specs.Tree.{tree_size};
-ghost use Rattle.pc_window.specs.Names.{definitions_of};
+ghost use Rattle.std.specs.Prelude.{◌≡◌, ◌+◌, ◌<◌, ◌^◌, ◌∷◌, ◌++◌, [], ℕ, pos, length, map, replicate, OnOk, IfOk};
 ghost use Rattle.pc_window.specs.Opening.{FormBelow, FormsBelow};
-ghost use Rattle.pc_window.specs.StoredWindow.{tree_in, forms_in, supply_in};
+ghost use Rattle.pc_window.specs.StoredWindow.{forms_in, supply_in};
 ghost use Rattle.pc_canon.specs.Canonical.{constant_in, columns_of};
 ghost use Rattle.pc_canon.specs.Key.{constant_numbers, list_numbers, column_numbers};
 ghost use Rattle.pc_canon.specs.models.Gathered.{with_factors, and_forms};
-ghost use Rattle.pc_canon.specs.models.Written.{elements_numbers, forms_numbers};
+ghost use Rattle.pc_canon.specs.models.Written.{forms_numbers};
 
 use crate::columns::{Column, add_form, in_order, write_columns};
 use crate::number_bytes::NumberBytes;
 use pc_linear::LinForm;
-use pc_window::{NameTable, Window, WindowTree};
+use pc_window::NameTable;
 use std::alloc::{AllocError, Global};
 
 /// Writes what shows of the forms of the parameters and of the names that are defined.
 pub(crate) fn write_forms(
     alloc: Global,
-    window: &Window,
+    table: &NameTable,
     parameters: &[u32],
+    defined: &[u32],
     numbers: &mut NumberBytes,
 ) -> Result<(), AllocError>
-    requires variables { FormsBelow (supply_in window.now.names) }
-    requires few { length parameters.now + tree_size (tree_in window.now.tree) < 2 ^ 32 }
-    ensures { OnOk result (numbers.new ≡ numbers.old ++ forms_numbers (map (forms_in window.now.names.forms) parameters.now) (map (forms_in window.now.names.forms) (definitions_of (tree_in window.now.tree)))) }
+    requires variables { FormsBelow (supply_in table.now) }
+    requires few { length parameters.now + length defined.now < 2 ^ 32 }
+    ensures { OnOk result (numbers.new ≡ numbers.old ++ forms_numbers (map (forms_in table.now.forms) parameters.now) (map (forms_in table.now.forms) defined.now)) }
 {
-    let mut columns = no_columns(alloc, window.names.next_variable)?;
-    write_constants(window, parameters, columns.as_mut_slice(), numbers)?;
+    let mut columns = no_columns(alloc, table.next_variable)?;
+    write_constants(table, parameters, defined, columns.as_mut_slice(), numbers)?;
     let sorted = in_order(columns)?;
     write_columns(sorted.as_slice(), numbers)?;
     Ok(())
@@ -35,20 +34,22 @@ pub(crate) fn write_forms(
 
 /// Writes what shows of each form by itself, and gathers their columns.
 fn write_constants(
-    window: &Window,
+    table: &NameTable,
     parameters: &[u32],
+    defined: &[u32],
     columns: &mut [Column],
     numbers: &mut NumberBytes,
 ) -> Result<(), AllocError>
-    requires below { (name : ℕ) → FormBelow (length columns.old) (forms_in window.now.names.forms name) }
-    requires few { length parameters.now + tree_size (tree_in window.now.tree) < 2 ^ 32 }
-    ensures columns { OnOk result (columns.new ≡ and_forms 0 (map (forms_in window.now.names.forms) parameters.now ++ map (forms_in window.now.names.forms) (definitions_of (tree_in window.now.tree))) columns.old) }
-    ensures numbers { OnOk result (numbers.new ≡ numbers.old ++ (list_numbers constant_numbers (map constant_in (map (forms_in window.now.names.forms) parameters.now)) ++ list_numbers constant_numbers (map constant_in (map (forms_in window.now.names.forms) (definitions_of (tree_in window.now.tree)))))) }
+    requires below { (name : ℕ) → FormBelow (length columns.old) (forms_in table.now.forms name) }
+    requires few { length parameters.now + length defined.now < 2 ^ 32 }
+    ensures columns { OnOk result (columns.new ≡ and_forms 0 (map (forms_in table.now.forms) parameters.now ++ map (forms_in table.now.forms) defined.now) columns.old) }
+    ensures numbers { OnOk result (numbers.new ≡ numbers.old
+        ++ (list_numbers constant_numbers (map constant_in (map (forms_in table.now.forms) parameters.now))
+        ++ list_numbers constant_numbers (map constant_in (map (forms_in table.now.forms) defined.now)))) }
 {
-    write_parameters(&window.names, parameters, columns, numbers)?;
+    write_names(table, parameters, 0, columns, numbers)?;
     let place = parameters.len() as u32;
-    write_definitions(&window.tree, &window.names, place, columns, numbers)?;
-    numbers.push(0)?;
+    write_names(table, defined, place, columns, numbers)?;
     Ok(())
 }
 
@@ -64,60 +65,29 @@ fn no_columns(alloc: Global, count: u32) -> Result<Vec<Column>, AllocError>
     Ok(columns)
 }
 
-/// Writes what shows of the forms of names, and gathers their columns.
-fn write_parameters(
+/// Writes what shows of the forms of names, and gathers their columns: the first form has this place.
+fn write_names(
     table: &NameTable,
     names: &[u32],
+    place: u32,
     columns: &mut [Column],
     numbers: &mut NumberBytes,
 ) -> Result<(), AllocError>
     requires below { (name : ℕ) → FormBelow (length columns.old) (forms_in table.now.forms name) }
-    requires few { length names.now < 2 ^ 32 }
-    ensures columns { OnOk result (columns.new ≡ and_forms 0 (map (forms_in table.now.forms) names.now) columns.old) }
+    requires few { place + length names.now < 2 ^ 32 }
+    ensures columns { OnOk result (columns.new ≡ and_forms place (map (forms_in table.now.forms) names.now) columns.old) }
     ensures numbers { OnOk result (numbers.new ≡ numbers.old ++ list_numbers constant_numbers (map constant_in (map (forms_in table.now.forms) names.now))) }
 {
+    let mut next = place;
     for at in 0..names.len() {
-        add_form_of(table, names[at], at as u32, columns, numbers)?;
+        add_form_of(table, names[at], next, columns, numbers)?;
+        next += 1;
     }
     numbers.push(0)
 }
 
-/// The same of the names that a tree defines, from a place on; and the place behind them.
-fn write_definitions(
-    tree: &WindowTree,
-    table: &NameTable,
-    place: u32,
-    columns: &mut [Column],
-    numbers: &mut NumberBytes,
-) -> Result<u32, AllocError>
-    requires below { (name : ℕ) → FormBelow (length columns.old) (forms_in table.now.forms name) }
-    requires few { place + tree_size (tree_in tree.now) < 2 ^ 32 }
-    ensures within { IfOk result (λ behind. behind ≤ place + tree_size (tree_in tree.now)) }
-    ensures place { IfOk result (λ behind. behind ≡ place + length (definitions_of (tree_in tree.now))) }
-    ensures columns { OnOk result (columns.new ≡ and_forms place (map (forms_in table.now.forms) (definitions_of (tree_in tree.now))) columns.old) }
-    ensures numbers { OnOk result (numbers.new ≡ numbers.old ++ elements_numbers constant_numbers (map constant_in (map (forms_in table.now.forms) (definitions_of (tree_in tree.now))))) }
-{
-    match tree {
-        WindowTree::Step { item, rest, .. } => match item.dest() {
-            None => write_definitions(rest, table, place, columns, numbers),
-            Some(dest) => {
-                add_form_of(table, dest, place, columns, numbers)?;
-                write_definitions(rest, table, place + 1, columns, numbers)
-            }
-        },
-        WindowTree::Test { yes, no, .. } => {
-            let behind = write_definitions(yes, table, place, columns, numbers)?;
-            let last = write_definitions(no, table, behind, columns, numbers)?;
-            Ok(last)
-        }
-        WindowTree::Node { below } => write_definitions(below, table, place, columns, numbers),
-        WindowTree::Exit { .. } => Ok(place),
-        WindowTree::Stop => Ok(place),
-        WindowTree::Trap { .. } => Ok(place),
-    }
-}
-
-/// The same of a name's form, read where it stands; a name that has no form has the constant 0.
+/// Writes what shows of a name's form, read where it stands, and adds its terms to their columns; a name that has no form has the constant 0.
+#[inline(always)]
 fn add_form_of(
     table: &NameTable,
     name: u32,

@@ -52,6 +52,7 @@ impl NumberBytes {
     }
 
     /// Puts two numbers behind the others.
+    #[inline(always)]
     #[tactic(auto, using(crate::proofs::Bytes::two))]
     pub(crate) fn push_two(&mut self, first: i64, second: i64) -> Result<(), AllocError>
         ensures { OnOk result (self.new ≡ self.old ++ first ∷ second ∷ []) }
@@ -63,8 +64,8 @@ impl NumberBytes {
             self.bytes.push_reserved(two as u8);
             return Ok(());
         }
-        self.push(first)?;
-        self.push(second)
+        self.push_digits(first)?;
+        self.push_digits(second)
     }
 
     /// Puts three numbers behind the others.
@@ -86,9 +87,9 @@ impl NumberBytes {
             self.bytes.push_reserved(three as u8);
             return Ok(());
         }
-        self.push_two(first, second)?;
-        self.push(third)?;
-        Ok(())
+        self.push_digits(first)?;
+        self.push_digits(second)?;
+        self.push_digits(third)
     }
 
     /// Puts a number behind the others, in as many bytes as it takes, and makes room where there is none.
@@ -162,6 +163,7 @@ fn write_short(natural: u64, bytes: &mut Vec<u8>)
 
 /// Puts the bytes of a natural number behind others: seven bits each, the low ones first, and the top bit set
 /// in all but the last. Where memory runs out, some of them may stay.
+#[inline(never)]
 #[tactic(auto, using(crate::proofs::Bytes::digits))]
 fn write_digits(natural: u64, bytes: &mut Vec<u8>) -> Result<(), AllocError>
     ensures written { OnOk result (bytes.new.items ≡ bytes.old.items ++ natural_bytes natural) }

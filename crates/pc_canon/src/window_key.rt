@@ -46,14 +46,22 @@ pub fn key(alloc: Global, window: &Window) -> Result<WindowKey, WindowError>
     ensures tag { IfOk result (λ key. key.tag ≡ first_tag (tags_of (whole (window_in window.now).front))) }
 {
     let count = window.names.forms.len();
-    let names = parameters_of(alloc, &window.tree, count)?;
-    let tag = first_tag(&window.tree);
+    let tree = &window.tree;
+    let names = parameters_of(alloc, tree, count)?;
+    let tag = first_tag(tree);
     let mut levels = levels_of(alloc, names.as_slice(), count)?;
     let depth = names.len() as u32;
+    let mut defined = NumberList::from_vec(Vec::with_capacity(alloc, count)?);
     let mut numbers = NumberBytes::with_room(alloc, ROOM_OF_NAME * count)?;
-    write_tree(&window.tree, tag, depth, &mut levels, &mut numbers)?;
-    write_shape(&window.tree, &mut numbers)?;
-    write_forms(alloc, window, names.as_slice(), &mut numbers)?;
+    write_tree(tree, tag, depth, &mut levels, &mut defined, &mut numbers)?;
+    write_shape(tree, &mut numbers)?;
+    write_forms(
+        alloc,
+        &window.names,
+        names.as_slice(),
+        defined.as_slice(),
+        &mut numbers,
+    )?;
     write_limits(window.limits, &mut numbers)?;
     write_loop(window.inside, &mut numbers)?;
     Ok(WindowKey {

@@ -1,6 +1,7 @@
 //! Trees in numbers.
 ghost use Rattle.std.specs.Prelude.{◌≡◌, ◌+◌, ◌-◌, ◌<◌, ◌^◌, ◌∷◌, ◌++◌, [], pos, length, OnOk, IfOk};
 ghost use Rattle.pc_window.specs.Tree.{tree_size};
+ghost use Rattle.pc_window.specs.Names.{definitions_of};
 ghost use Rattle.pc_window.specs.Opening.{TreeBelow};
 ghost use Rattle.pc_window.specs.StoredWindow.{tree_in, front_in};
 ghost use Rattle.pc_canon.specs.Canonical.{placed_item, placed_homes};
@@ -9,22 +10,25 @@ ghost use Rattle.pc_canon.specs.models.Written.{place_at, written};
 ghost use Rattle.pc_word.specs.Naming.{map_name};
 
 use crate::number_bytes::NumberBytes;
-use pc_window::{Home, WindowTree};
+use pc_window::{Home, NumberList, WindowTree};
 use pc_word::{Item, Operand, TrapKind};
 use std::alloc::AllocError;
 
 /// Writes a tree with tags counted from the first, where the names on the path have these levels: how
-/// many there were from each on. The levels of what is defined on the path come and go with it.
+/// many there were from each on. The levels of what is defined on the path come and go with it. The names
+/// that it defines are put behind those that were defined before, in preorder.
 pub(crate) fn write_tree(
     tree: &WindowTree,
     first: u32,
     depth: u32,
     levels: &mut [u32],
+    defined: &mut NumberList,
     numbers: &mut NumberBytes,
 ) -> Result<(), AllocError>
     requires below { TreeBelow (length levels.old) (tree_in tree.now) }
     requires room { depth + tree_size (tree_in tree.now) < 2 ^ 32 }
     ensures levels { OnOk result (levels.new ≡ levels.old) }
+    ensures defined { OnOk result (defined.new ≡ defined.old ++ definitions_of (tree_in tree.now)) }
     ensures numbers { OnOk result (numbers.new ≡ numbers.old ++ written first depth levels.old (tree_in tree.now)) }
 {
     match tree {
@@ -37,11 +41,12 @@ pub(crate) fn write_tree(
             numbers.push_three(0, tag_number(*tag, first), i64::from(*origin))?;
             write_item(*item, depth, levels, numbers)?;
             match item.dest() {
-                None => write_tree(rest, first, depth, levels, numbers)?,
+                None => write_tree(rest, first, depth, levels, defined, numbers)?,
                 Some(dest) => {
+                    defined.push(dest)?;
                     let before = levels[dest as usize];
                     levels[dest as usize] = depth + 1;
-                    write_tree(rest, first, depth + 1, levels, numbers)?;
+                    write_tree(rest, first, depth + 1, levels, defined, numbers)?;
                     levels[dest as usize] = before;
                 }
             }
@@ -56,11 +61,11 @@ pub(crate) fn write_tree(
         } => {
             numbers.push_three(1, tag_number(*tag, first), i64::from(*origin))?;
             write_operand(*on, depth, levels, numbers)?;
-            write_tree(yes, first, depth, levels, numbers)?;
-            write_tree(no, first, depth, levels, numbers)?;
+            write_tree(yes, first, depth, levels, defined, numbers)?;
+            write_tree(no, first, depth, levels, defined, numbers)?;
             Ok(())
         }
-        WindowTree::Node { below } => write_tree(below, first, depth, levels, numbers),
+        WindowTree::Node { below } => { write_tree(below, first, depth, levels, defined, numbers) }
         WindowTree::Exit { region, tag, homes } => {
             numbers.push_three(2, i64::from(*region), tag_number(*tag, first))?;
             write_homes(homes.as_slice(), depth, levels, numbers)
@@ -153,6 +158,7 @@ fn write_homes(
 }
 
 /// Writes an operand: a name as its place among the names.
+#[inline(always)]
 fn write_operand(
     operand: Operand,
     depth: u32,

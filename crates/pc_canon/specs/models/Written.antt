@@ -45,11 +45,6 @@ written first depth levels (Trap_exit kind line) = pos 4 ∷ pos (trap_number ki
 
 -- ---- forms
 
--- the elements of a list, 1 before each
-abbrev pub elements_numbers : {A : Type 0} → (A → List ℤ) → List A → List ℤ
-elements_numbers numbers [] = []
-elements_numbers numbers (x ∷ xs) = pos 1 ∷ (numbers x ++ elements_numbers numbers xs)
-
 -- what is written of the forms of parameters and of names that are defined
 abbrev pub forms_numbers : List Form → List Form → List ℤ
 forms_numbers parameters definitions =

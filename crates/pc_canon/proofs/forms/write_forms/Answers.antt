@@ -1,8 +1,7 @@
 use Rattle.std.proofs.Common.{rules, ◌≡◌, [], ◌++◌, ◌∙◌, length, List, refl, ap}
 use Rattle.std.specs.Prelude.{ℤ, map, replicate}
 use Rattle.std.proofs.lemmas.List.{take_at}
-use Rattle.pc_window.specs.Names.{definitions_of}
-use Rattle.pc_window.specs.StoredWindow.{tree_in, forms_in}
+use Rattle.pc_window.specs.StoredWindow.{forms_in}
 use Rattle.pc_canon.specs.Canonical.{constant_in, columns_below}
 use Rattle.pc_canon.specs.Key.{constant_numbers, list_numbers, column_numbers}
 use Rattle.pc_canon.specs.models.Gathered.{column_in, and_forms}
@@ -12,13 +11,13 @@ use Rattle.pc_canon.proofs.forms.write_forms.Goals as goal
 
 pub returns : goal.returns
 returns c =
-    let window = c.args.window.now in
-    let forms = forms_in window.names.forms in
+    let table = c.args.table.now in
+    let forms = forms_in table.forms in
     let names = c.args.parameters.now in
-    let defined = definitions_of (tree_in window.tree) in
+    let defined = c.args.defined.now in
     let parameters = map forms names in
     let definitions = map forms defined in
-    let count = window.names.next_variable in
+    let count = table.next_variable in
     let none : List ℤ = [] in
     let old = c.args.numbers.now in
     let one = c.write_constants.new.numbers in

@@ -12,7 +12,7 @@ use Rattle.pc_canon.specs.Canonical.{tags_of, first_tag}
 use Rattle.pc_canon.specs.Key.{shape_numbers, limit_numbers, loop_numbers}
 use Rattle.pc_canon.specs.models.Written.{levels_of, written, forms_numbers}
 use Rattle.pc_canon.proofs.Leveled.{levels-long}
-use Rattle.pc_canon.proofs.WrittenKeys.{few_parameters, key_written, parts_written}
+use Rattle.pc_canon.proofs.WrittenKeys.{few_parameters, few_definitions, key_written, parts_written}
 use Rattle.pc_canon.proofs.window_key.key.Goals as goal
 
 pub levels_of-requires-clause-below : goal.levels_of-requires-clause-below
@@ -60,9 +60,12 @@ pub write_forms-requires-clause-few : goal.write_forms-requires-clause-few
 write_forms-requires-clause-few c =
     let tree = tree_in c.args.window.now.tree in
     let are : c.as_slice-2.result.now ≡ parameters_of tree = search rules in
+    let listed : c.as_slice-3.result.now ≡ definitions_of tree = search rules in
     let few = few_parameters (length c.args.window.now.names.forms) tree c.requires.below in
+    let fewer = few_definitions tree in
     let long = ap (λ (names : List ℕ). length names) are in
-    omega (arith, few, long, c.requires.few_names, c.requires.small)
+    let longer = ap (λ (names : List ℕ). length names) listed in
+    omega (arith, few, fewer, long, longer, c.requires.few_names, c.requires.small)
 
 pub returns-clause-names : goal.returns-clause-names
 returns-clause-names c =
@@ -95,8 +98,9 @@ returns-clause-bytes c =
     let first : one ≡ trees =
     by_levels ∙ (λ i. written (tag i) (length (are i)) (levels i) tree) ∙ ap (λ (list : List ℕ). written (first_tag (tags_of tree)) (length names) (levels_of list (replicate n 0)) tree) are in
     let second : two ≡ one ++ shape_numbers (front_in window.tree) = search rules in
-    let by_names : three ≡ two ++ forms_numbers (map forms c.in_ok-names.names) (map forms (definitions_of tree)) = search rules in
-    let third : three ≡ two ++ constants = by_names ∙ ap (λ (list : List ℕ). two ++ forms_numbers (map forms list) (map forms (definitions_of tree))) are in
+    let defined : c.write_tree.new.defined ≡ definitions_of tree = search rules in
+    let by_names : three ≡ two ++ forms_numbers (map forms c.in_ok-names.names) (map forms c.write_tree.new.defined) = search rules in
+    let third : three ≡ two ++ constants = by_names ∙ (λ i. two ++ forms_numbers (map forms (are i)) (map forms (defined i))) in
     let fourth : four ≡ three ++ limit_numbers window.limits = search rules in
     let fifth : five ≡ four ++ loop_numbers window.inside = search rules in
     let numbers = parts_written trees (shape_numbers (front_in window.tree)) constants (limit_numbers window.limits) (loop_numbers window.inside)

@@ -1,7 +1,8 @@
 use Rattle.std.proofs.Common.{rules, ◌≡◌, ◌<◌, ◌∷◌, ◌++◌, ◌∙◌, [], List, ap}
-use Rattle.std.specs.Prelude.{ℤ}
+use Rattle.std.specs.Prelude.{ℤ, OnOk}
 use Rattle.pc_canon.specs.Bytes.{zigzag}
-use Rattle.pc_canon.proofs.Bytes.{three_added}
+use Rattle.std.proofs.lemmas.Result.{on_ok_weaker}
+use Rattle.pc_canon.proofs.Bytes.{three_added, one_by_one}
 use Rattle.pc_canon.proofs.number_bytes.NumberBytes.push_three.Goals as goal
 
 pub returns-then-has_room : goal.returns-then-has_room
@@ -20,3 +21,17 @@ returns-then-has_room c =
     let second : two ≡ one ++ zigzag y ∷ [] = search rules in
     let third : three ≡ two ++ zigzag z ∷ [] = search rules in
     three_added before one two three x y z c.self.invariant o p q first second third ∙ ap (λ (l : List ℤ). l ++ x ∷ y ∷ z ∷ []) c.self.view_is
+
+pub returns : goal.returns
+returns c =
+    let x = c.args.first in
+    let y = c.args.second in
+    let z = c.args.third in
+    let before = c.args.self.now in
+    let one = c.push_digits.new.self in
+    let two = c.push_digits-2.new.self in
+    let three = c.push_digits-3.new.self in
+    let first : one ≡ before ++ x ∷ [] = search rules in
+    let second : two ≡ one ++ y ∷ [] = search rules in
+    let third : OnOk c.push_digits-3.result (three ≡ two ++ z ∷ []) = search rules in
+    on_ok_weaker c.push_digits-3.result (one_by_one before one two three x y z first second) third
