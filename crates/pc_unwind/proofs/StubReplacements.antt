@@ -1,7 +1,6 @@
 -- A stub's region in place of the stub, in memory.
 use Rattle.std.proofs.Common.{◌≡◌, ℕ, ◌+◌, ◌<◌, ◌≤◌, Option, List, sym, ◌∙◌, ap, arith}
 use Rattle.std.specs.Prelude.{true}
-use Rattle.pc_word.specs.declared.item.Operand.{Operand}
 use Rattle.pc_table.specs.Table.{Table, TableTree, region_tree}
 use Rattle.pc_window.specs.declared.home.Home.{Home}
 use Rattle.pc_window.specs.declared.names.NameTable.{NameTable}
@@ -9,7 +8,7 @@ use Rattle.pc_window.specs.declared.tree.WindowTree.{WindowTree}
 use Rattle.pc_window.specs.Tree.{tree_size, home_of}
 use Rattle.pc_window.specs.Opening.{Supply, Grafted, graft}
 use Rattle.pc_window.specs.Unwinding.{most_unwound}
-use Rattle.pc_window.specs.StoredWindow.{tree_in, supply_in, homes_in, InNodes}
+use Rattle.pc_window.specs.StoredWindow.{tree_in, supply_in, InNodes}
 use Rattle.pc_window.specs.Grafting.{Grafts}
 use Rattle.pc_unwind.specs.declared.growth.Growth.{Growth}
 use Rattle.pc_unwind.specs.models.Walking.{brought_size, replacement, Replaces}
@@ -28,12 +27,11 @@ module _ (table : Table) (region : ℕ) (from : TableTree) (from_is : from ≡ r
   refused names size more is large = let e = brought_of names in omega arith
 
   -- it is not too large
-  pub replaced : (old : Growth) (new : NameTable) (by_variable : List Operand) (tree : WindowTree) (more : ℕ) → more ≡ brought_size from → old.size + more ≤ most_unwound
-      → homes_in by_variable ≡ home_of homes → InNodes true tree
-      → Grafts table loop tag from (supply_in old.names) (homes_in by_variable) (tree_in tree) (supply_in new)
-      → Replaces table loop tag region homes old (record { names = new; size = old.size + more }) tree
-  replaced old new by_variable tree more is small homes_are nodes grafts =
-      let same : _ ≡ replacement table loop tag region homes (supply_in old.names) = grafts ∙ (λ i. graft table loop tag (from_is i) (supply_in old.names) (homes_are i)) in
+  pub replaced : (old : Growth) (new : NameTable) (tree : WindowTree) (more : ℕ) → more ≡ brought_size from → old.size + more ≤ most_unwound
+      → InNodes true tree → Grafts table loop tag from (supply_in old.names) (home_of homes) (tree_in tree) (supply_in new)
+      → Replaces table loop tag region homes old (record { names = new; size = old.size + more; homes = tt }) tree
+  replaced old new tree more is small nodes grafts =
+      let same : _ ≡ replacement table loop tag region homes (supply_in old.names) = grafts ∙ (λ i. graft table loop tag (from_is i) (supply_in old.names) (home_of homes)) in
       let e = brought_of (supply_in old.names) in
       let f = ap (λ (g : Grafted). tree_size g.tree) same in
       record { grafts = same; nodes = nodes; size = omega arith; within = small }

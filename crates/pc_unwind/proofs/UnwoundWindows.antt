@@ -29,7 +29,7 @@ module _ (table : RegionTable) (w : StoredWindow) (single : WindowTree) (same : 
   pub single_stubs : CanUnwind (table_of table) (window_in w) → StubsAreThere (table_of table) (tree_in single)
   single_stubs able = subst (StubsAreThere (table_of table)) is_whole (stubs_of (table_of table) (2 ^ 30) (whole (front_in w.tree)) able.parts)
 
-  pub single_room : (size : ℕ) → size ≡ tree_size (whole (front_in w.tree)) → CanUnwind (table_of table) (window_in w) → HasRoom (record { names = w.names; size = size })
+  pub single_room : (size : ℕ) → size ≡ tree_size (whole (front_in w.tree)) → CanUnwind (table_of table) (window_in w) → HasRoom (record { names = w.names; size = size; homes = tt })
   single_room size is able = let few = able.size in let names = able.names in let variables = able.variables in record { size = omega arith; names = omega arith; variables = omega arith }
 
   pub single_root : CanUnwind (table_of table) (window_in w) → RootStaysAtMost (table_of table) most_root_tag (tree_in single)
@@ -40,7 +40,7 @@ module _ (table : RegionTable) (w : StoredWindow) (single : WindowTree) (same : 
       (tags_stay (table_of table) table.kept (2 ^ 30) (tree_in single) (subst (TagsAtMost (2 ^ 30)) is_whole (tags_of (table_of table) (2 ^ 30) (whole (front_in w.tree)) able.parts)))
 
   pub unwinds_to : (number size : ℕ) (later : WindowTree) (growth : Growth) → InNodes true later
-      → Unwinds (table_of table) w.inside number (with_growth (tree_in single) (record { names = w.names; size = size })) (with_growth (tree_in later) growth)
+      → Unwinds (table_of table) w.inside number (with_growth (tree_in single) (record { names = w.names; size = size; homes = tt })) (with_growth (tree_in later) growth)
       → UnwindsTo (table_of table) number (window_in w) (window_in (record { tree = later; names = growth.names; limits = w.limits; inside = w.inside }))
   unwinds_to number size later growth nodes u = record {
     unwound = with_growth (tree_in later) growth;

@@ -7,11 +7,10 @@ ghost use Rattle.pc_unwind.specs.models.Named.{TagsAtMost, StubsAreThere};
 ghost use Rattle.pc_unwind.specs.models.Walking.{HasRoom, MayReplace, MayReplaceStub, most_stub_tag, is_stub};
 
 use crate::growth::Growth;
-use crate::homes::homes_by_variable;
 use crate::nodes::placed;
 use crate::regions::brought_size;
 use pc_table::RegionTable;
-use pc_window::{Home, WindowTree, graft};
+use pc_window::{Home, WindowTree};
 use std::alloc::{AllocError, Global};
 
 /// The items and tests that a window may have after unwinding.
@@ -79,16 +78,10 @@ fn replacement(
     if growth.size + more > MOST_UNWOUND {
         return Ok(None);
     }
-    let mut homes = homes_by_variable(homes);
-    let tree = graft(
-        alloc,
-        table,
-        inside,
-        tag,
-        from,
-        &mut growth.names,
-        &mut homes,
-    )?;
+    let names = &mut growth.names;
+    let tree = growth
+        .homes
+        .graft(alloc, table, inside, tag, from, names, homes)?;
     growth.size += more;
     Ok(Some(tree))
 }

@@ -11,6 +11,7 @@ ghost use Rattle.pc_unwind.specs.Unwindable.{CanUnwind, HasGrown};
 ghost use Rattle.pc_unwind.specs.models.Walking.{HasRoom, RootAtMost, RootStaysAtMost, most_root_tag, with_growth};
 
 use crate::growth::Growth;
+use crate::homes::HomeTable;
 use crate::nodes::split;
 use crate::replacing::replace_stub;
 use crate::tags::least_tags;
@@ -47,7 +48,8 @@ pub fn unwind(
         inside,
     } = window;
     let mut tree = split(alloc, tree)?;
-    let mut growth = Growth { names, size };
+    let homes = HomeTable::new();
+    let mut growth = Growth { names, size, homes };
     unwind_tree(alloc, table, inside, number as u32, &mut growth, &mut tree)?;
     Ok(Window {
         tree,

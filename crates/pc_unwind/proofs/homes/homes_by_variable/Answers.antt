@@ -1,11 +1,5 @@
-use Rattle.std.proofs.Common.{◌∙◌, refl, arith}
-use Rattle.pc_unwind.proofs.StubHomes.{no_homes, none_left, home_written, still_all}
+use Rattle.pc_unwind.proofs.StubHomes.{no_homes}
 use Rattle.pc_unwind.proofs.homes.homes_by_variable.Goals as goal
 
-pub loop-left-init : goal.loop-left-init
-loop-left-init c = (omega arith, no_homes 96 ∙ none_left c.args.homes.now, refl)
-
-pub loop-left-preserved : goal.loop-left-preserved
-loop-left-preserved c =
-    let kept = c.loop-left.invariant in
-    (omega arith, home_written c.loop-left.by_variable c.args.homes.now c.loop-left.left _ kept.1 kept.0 c.loop-left-test.true kept.2 c.requires, still_all c.loop-left.by_variable _ _ kept.2)
+pub put_homes-requires-clause-empty : goal.put_homes-requires-clause-empty
+put_homes-requires-clause-empty c = no_homes 96

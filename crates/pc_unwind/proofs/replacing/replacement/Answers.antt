@@ -15,8 +15,8 @@ returns-then-growth-more-gt-MOST_UNWOUND c = (
 pub returns : goal.returns
 returns c =
     replaced (table_of c.args.table.now) c.args.region _ c.tree-from.ensures.tree c.args.inside c.args.tag c.args.homes.now c.args.growth.now c.graft.new.names
-    c.homes_by_variable-homes.result c.in_ok-tree.tree c.brought_size-more.result c.brought_size-more.ensures.brought c.if-growth-more-gt-MOST_UNWOUND.false
-    c.homes_by_variable-homes.ensures c.in_ok-tree.ensures.nodes c.in_ok-tree.ensures.tree
+    c.in_ok-tree.tree c.brought_size-more.result c.brought_size-more.ensures.brought c.if-growth-more-gt-MOST_UNWOUND.false
+    c.in_ok-tree.ensures.nodes c.in_ok-tree.ensures.tree
 
-pub homes_by_variable-homes-requires : goal.homes_by_variable-homes-requires
-homes_by_variable-homes-requires c = homes_small (table_of c.args.table.now) c.args.table.now.kept c.args.region c.args.homes.now c.requires.stub
+pub graft-requires-clause-small : goal.graft-requires-clause-small
+graft-requires-clause-small c = homes_small (table_of c.args.table.now) c.args.table.now.kept c.args.region c.args.homes.now c.requires.stub
