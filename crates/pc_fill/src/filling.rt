@@ -1,6 +1,8 @@
 //! Filling a window.
 ghost use Rattle.std.specs.Prelude.{◌≡◌, ◌<◌, ◌+◌, true, IfOk};
 ghost use Rattle.pc_table.specs.Table.{Table};
+ghost use Rattle.pc_window.specs.Tree.{whole};
+ghost use Rattle.pc_window.specs.Names.{parameters_of};
 ghost use Rattle.pc_window.specs.Filled.{Filled};
 ghost use Rattle.pc_window.specs.Kept.{FillKeeps};
 ghost use Rattle.pc_window.specs.Steps.{IsProper, FillsTo};
@@ -11,10 +13,10 @@ ghost use Rattle.pc_fill.specs.models.Places.{known_in};
 ghost use Rattle.pc_fill.specs.models.CanFill.{CanFill, GrowsTo};
 
 use crate::jump::jump;
-use crate::known::parameters;
+use crate::known::known_names;
 use crate::tag_order::are_tags_in_order_behind;
 use crate::walk::first_known;
-use pc_window::{Window, WindowError};
+use pc_window::{Window, WindowError, parameters_of};
 use pc_word::Limits;
 use std::alloc::{AllocError, Global};
 
@@ -28,7 +30,23 @@ pub fn fill(alloc: Global, window: Window) -> Result<Window, WindowError>
     ensures left { IfOk result (λ later. FilledFrom window later) }
     ensures keeps { IfOk result (λ later. (table : Table) → FillKeeps table (window_in window) (window_in later)) }
 {
-    let known = parameters(alloc, &window)?;
+    let parameters = parameters_of(alloc, &window.tree, window.names.forms.len())?;
+    let filled = fill_from(alloc, window, parameters.as_slice())?;
+    Ok(filled)
+}
+
+/// Fills a window's front, as `fill` does, where the window's parameters are known, in the order of
+/// first use.
+pub fn fill_from(alloc: Global, window: Window, parameters: &[u32]) -> Result<Window, WindowError>
+    requires proper { IsProper (window_in window) }
+    requires fillable { IsFillable window }
+    requires parameters { parameters.now ≡ parameters_of (whole (window_in window).front) }
+    ensures fills { IfOk result (λ later. FillsTo (window_in window) (window_in later)) }
+    ensures proper { IfOk result (λ later. IsProper (window_in later)) }
+    ensures left { IfOk result (λ later. FilledFrom window later) }
+    ensures keeps { IfOk result (λ later. (table : Table) → FillKeeps table (window_in window) (window_in later)) }
+{
+    let known = known_names(alloc, &window, parameters)?;
     let most = most_in_front(window.limits);
     let few = most < 511;
     prove!(few);

@@ -1,17 +1,16 @@
 //! The names that are known before a window: in a table by name, and at a place, by what stands above it.
 ghost use Rattle.std.specs.Prelude.{◌≡◌, ◌↔◌, ◌<◌, ◌≤◌, true, false, length, IfOk};
 ghost use Rattle.std.specs.List.{AllByRecursion};
-ghost use Rattle.pc_word.specs.Items.{dest_of, operand_list};
-ghost use Rattle.pc_window.specs.Opening.{OperandBelow, ItemBelow, StubBelow, TreeBelow};
-ghost use Rattle.pc_window.specs.Names.{IsKnown, ReadsKnown, uses};
+ghost use Rattle.pc_word.specs.Items.{operand_list};
+ghost use Rattle.pc_window.specs.Names.{IsKnown, ReadsKnown, uses, parameters_of};
 ghost use Rattle.pc_window.specs.Steps.{IsProper};
 ghost use Rattle.pc_window.specs.Tree.{whole};
 ghost use Rattle.pc_window.specs.StoredWindow.{tree_in, window_in};
 ghost use Rattle.pc_fill.specs.models.Places.{known_in, unwritten_above};
-ghost use Rattle.pc_fill.specs.models.Known.{with_operand, with_reads, with_homes, without_dest, used_with};
+ghost use Rattle.pc_fill.specs.models.Known.{with_name, with_names};
 
 use crate::readiness::size_up_to;
-use pc_window::{Home, Window, WindowTree};
+use pc_window::{Window, WindowTree};
 use pc_word::{Item, Operand, Operands};
 use std::alloc::{AllocError, Global};
 
@@ -109,112 +108,37 @@ pub(crate) fn are_known_at(tree: &WindowTree, place: u32, operands: Operands) ->
     }
 }
 
-/// Marks the name that an operand reads.
+/// Marks a name.
 #[tactic(auto, using(crate::proofs::Marks::marks))]
-fn mark(table: &mut [bool], operand: Operand)
-    requires { OperandBelow (length table.old) operand }
-    ensures { known_in table.new ≡ with_operand operand (known_in table.old) }
-{
-    match operand {
-        Operand::Name(name) => table[name as usize] = true,
-        Operand::Lit(_) => {}
-    }
-}
-
-/// Takes the mark of a name away.
-#[tactic(auto, using(crate::proofs::Marks::marks))]
-fn unmark(table: &mut [bool], name: u32)
+fn mark(table: &mut [bool], name: u32)
     requires { name < length table.old }
-    ensures { known_in table.new ≡ without_dest (Some name) (known_in table.old) }
+    ensures { known_in table.new ≡ with_name name (known_in table.old) }
 {
-    table[name as usize] = false;
+    table[name as usize] = true;
 }
 
-/// Takes the mark of the name that an item writes away.
+/// Marks names.
 #[tactic(auto, using(crate::proofs::Marks::marks))]
-fn unmark_dest(table: &mut [bool], item: Item)
-    requires { ItemBelow (length table.old) item }
-    ensures { known_in table.new ≡ without_dest (dest_of item) (known_in table.old) }
+fn mark_names(table: &mut [bool], names: &[u32])
+    requires { AllByRecursion (λ name. name < length table.old) names.now }
+    ensures { known_in table.new ≡ with_names names.now (known_in table.old) }
 {
-    match item {
-        Item::Bin { dest, .. } => unmark(table, dest),
-        Item::Copy { dest, .. } => unmark(table, dest),
-        Item::Load { dest, .. } => unmark(table, dest),
-        Item::Store { .. } => {}
-        Item::Print { .. } => {}
-        Item::Read { dest } => unmark(table, dest),
-        Item::More { dest } => unmark(table, dest),
-    }
-}
-
-/// Marks two operands.
-#[tactic(auto, using(crate::proofs::Marks::marks))]
-fn mark_both(table: &mut [bool], one: Operand, other: Operand)
-    requires one { OperandBelow (length table.old) one }
-    requires other { OperandBelow (length table.old) other }
-    ensures { known_in table.new ≡ with_operand one (with_operand other (known_in table.old)) }
-{
-    mark(table, other);
-    mark(table, one);
-}
-
-/// Marks the names that an item reads.
-#[tactic(auto, using(crate::proofs::Marks::reading))]
-fn mark_reads(table: &mut [bool], item: Item)
-    requires { ItemBelow (length table.old) item }
-    ensures { known_in table.new ≡ with_reads item (known_in table.old) }
-{
-    match item {
-        Item::Bin { left, right, .. } => mark_both(table, left, right),
-        Item::Copy { from, .. } => mark(table, from),
-        Item::Load { index, .. } => mark(table, index),
-        Item::Store { index, value, .. } => mark_both(table, index, value),
-        Item::Print { value } => mark(table, value),
-        Item::Read { .. } => {}
-        Item::More { .. } => {}
-    }
-}
-
-/// Marks the names that homes read.
-#[tactic(auto, using(crate::proofs::Marks::homes))]
-fn mark_homes(table: &mut [bool], homes: &[Home])
-    requires { StubBelow (length table.old) homes.now }
-    ensures { known_in table.new ≡ with_homes homes.now (known_in table.old) }
-{
-    for at in 0..homes.len() {
-        mark(table, homes[at].value);
-    }
-}
-
-/// Marks the names that a tree uses.
-fn mark_uses(table: &mut [bool], tree: &WindowTree)
-    requires { TreeBelow (length table.old) (tree_in tree.now) }
-    ensures { known_in table.new ≡ used_with (tree_in tree.now) (known_in table.old) }
-{
-    match tree {
-        WindowTree::Step { item, rest, .. } => {
-            mark_uses(table, rest);
-            unmark_dest(table, *item);
-            mark_reads(table, *item);
-        }
-        WindowTree::Test { on, yes, no, .. } => {
-            mark_uses(table, yes);
-            mark_uses(table, no);
-            mark(table, *on);
-        }
-        WindowTree::Node { below } => mark_uses(table, below),
-        WindowTree::Exit { homes, .. } => mark_homes(table, homes.as_slice()),
-        WindowTree::Stop => {}
-        WindowTree::Trap { .. } => {}
+    for at in 0..names.len() {
+        mark(table, names[at]);
     }
 }
 
 /// The names that are known before a window, its parameters, in a table by name.
-pub(crate) fn parameters(alloc: Global, window: &Window) -> Result<Vec<bool>, AllocError>
-    requires { IsProper (window_in window.now) }
+pub(crate) fn known_names(
+    alloc: Global,
+    window: &Window,
+    parameters: &[u32],
+) -> Result<Vec<bool>, AllocError>
+    requires proper { IsProper (window_in window.now) }
+    requires parameters { parameters.now ≡ parameters_of (whole (window_in window.now).front) }
     ensures { IfOk result (λ table. known_in table.items ≡ uses (whole (window_in window.now).front)) }
 {
     let mut table = vec![in alloc; false; window.names.forms.len()]?;
-    mark_uses(&mut table, &window.tree);
+    mark_names(&mut table, parameters);
     Ok(table)
 }

@@ -17,7 +17,7 @@ mod twin;
 mod walk;
 
 pub use bringing::bring;
-pub use filling::fill;
+pub use filling::{fill, fill_from};
 pub use first::{ReadyNode, first_ready};
 pub use laws::law_of_opened_windows;
 pub use readiness::size_up_to;

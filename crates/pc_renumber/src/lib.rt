@@ -7,4 +7,4 @@ mod renumbering;
 mod trees;
 mod variables;
 
-pub use renumbering::renumber;
+pub use renumbering::{renumber, renumber_by};

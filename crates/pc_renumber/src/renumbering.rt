@@ -1,6 +1,6 @@
 //! Renumbering.
 ghost use Rattle.std.specs.Prelude.{◌≡◌, ◌≤◌, [], length, true, IfOk};
-ghost use Rattle.pc_window.specs.Tree.{tree_size};
+ghost use Rattle.pc_window.specs.Tree.{whole, tree_size};
 ghost use Rattle.pc_window.specs.Names.{parameters_of};
 ghost use Rattle.pc_window.specs.Steps.{IsProper};
 ghost use Rattle.pc_window.specs.StoredWindow.{tree_in, window_in, InNodes};
@@ -35,10 +35,28 @@ pub fn renumber(alloc: Global, window: Window) -> Result<Window, WindowError>
     ensures size { IfOk result (λ later. tree_size (tree_in later.tree) ≡ tree_size (tree_in window.tree)) }
     ensures same { IfOk result (λ later. ShiftedBy (parameter_pairs (window_in window) (window_in later)) (window_in window) (window_in later)) }
 {
-    let count = window.names.forms.len();
-    let parameters = parameters_of(alloc, &window.tree, count)?;
-    let mut numbers = no_numbers(alloc, count)?;
-    let later = renumbered(alloc, window, parameters.as_slice(), &mut numbers)?;
+    let parameters = parameters_of(alloc, &window.tree, window.names.forms.len())?;
+    let later = renumber_by(alloc, window, parameters.as_slice())?;
+    Ok(later)
+}
+
+/// Numbers the names and form variables of a window anew, as `renumber` does, where its parameters are
+/// known, in the order of first use.
+#[tactic(auto, using(crate::proofs::RenumberedWindows::windows))]
+pub fn renumber_by(alloc: Global, window: Window, parameters: &[u32]) -> Result<Window, WindowError>
+    requires proper { IsProper (window_in window) }
+    requires nodes { InNodes true window.tree }
+    requires parameters { parameters.now ≡ parameters_of (whole (window_in window).front) }
+    ensures renumbers { IfOk result (λ later. Renumbers (window_in window) (window_in later)) }
+    ensures nodes { IfOk result (λ later. InNodes true later.tree) }
+    ensures proper { IfOk result (λ later. IsProper (window_in later)) }
+    ensures names { IfOk result (λ later. length later.names.forms ≤ length window.names.forms) }
+    ensures variables { IfOk result (λ later. later.names.next_variable ≤ window.names.next_variable) }
+    ensures size { IfOk result (λ later. tree_size (tree_in later.tree) ≡ tree_size (tree_in window.tree)) }
+    ensures same { IfOk result (λ later. ShiftedBy (parameter_pairs (window_in window) (window_in later)) (window_in window) (window_in later)) }
+{
+    let mut numbers = no_numbers(alloc, window.names.forms.len())?;
+    let later = renumbered(alloc, window, parameters, &mut numbers)?;
     Ok(later)
 }
 

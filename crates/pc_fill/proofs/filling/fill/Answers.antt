@@ -1,27 +1,17 @@
-use Rattle.std.proofs.Common.{◌<◌, ◌∙◌, ℕ, Bool, ap, subst}
-use Rattle.pc_window.specs.Filled.{Filled}
-use Rattle.pc_window.specs.StoredWindow.{window_in}
-use Rattle.pc_window.proofs.Filling.{fills_keep}
-use Rattle.pc_fill.specs.models.Places.{known_in}
-use Rattle.pc_fill.proofs.Jumps.{can_begin, proper_after, filled_from}
+use Rattle.std.proofs.Common.{rules, ◌≡◌, ◌∙◌, sym, ap, subst, ℕ, length}
+use Rattle.pc_window.specs.Names.{parameters_of}
+use Rattle.pc_window.specs.Opening.{TreeBelow}
+use Rattle.pc_window.specs.StoredWindow.{tree_in}
+use Rattle.pc_window.proofs.WindowsStored.{whole_in}
 use Rattle.pc_fill.proofs.filling.fill.Goals as goal
 
-pub fill_on-requires-clause-can : goal.fill_on-requires-clause-can
-fill_on-requires-clause-can c =
-    can_begin c.args.window c.requires.proper c.requires.fillable (known_in c.deref.result.now) (ap known_in c.deref.ensures.value ∙ c.in_ok-known.ensures)
-    (subst (λ (n : ℕ). n < 511) c.most_in_front-most.ensures.most c.most_in_front-most.ensures.few)
+pub parameters_of-requires : goal.parameters_of-requires
+parameters_of-requires c =
+    let window = c.args.window in
+    let many : c.len.result ≡ length window.names.forms = search rules in
+    subst (λ (n : ℕ). TreeBelow n (tree_in window.tree)) (sym many) (subst (TreeBelow (length window.names.forms)) (whole_in window.tree) c.requires.proper.names_below)
 
-pub returns-clause-left : goal.returns-clause-left
-returns-clause-left c =
-    filled_from c.args.window c.requires.proper c.requires.fillable (known_in c.deref.result.now) c.in_ok-filled.filled c.in_ok-filled.ensures.fills c.in_ok-filled.ensures.grows
-
-pub returns-clause-proper : goal.returns-clause-proper
-returns-clause-proper c =
-    proper_after c.args.window c.requires.proper c.requires.fillable (known_in c.deref.result.now) (ap known_in c.deref.ensures.value ∙ c.in_ok-known.ensures) c.in_ok-filled.filled
-    c.in_ok-filled.ensures.fills
-
-pub returns-clause-keeps : goal.returns-clause-keeps
-returns-clause-keeps c table =
-    fills_keep table _ _
-    (subst (λ (known : ℕ → Bool). Filled known (window_in c.args.window) (window_in c.in_ok-filled.filled)) (ap known_in c.deref.ensures.value ∙ c.in_ok-known.ensures)
-    c.in_ok-filled.ensures.fills) c.requires.proper
+pub fill_from-requires-clause-parameters : goal.fill_from-requires-clause-parameters
+fill_from-requires-clause-parameters c =
+    let listed : c.as_slice.result.now ≡ parameters_of (tree_in c.args.window.tree) = search rules in
+    listed ∙ ap parameters_of (sym (whole_in c.args.window.tree))
