@@ -1,0 +1,14 @@
+pub mod Counts
+pub mod Combined
+pub mod UsedNames
+pub mod TidiedTrees
+pub mod Supplies
+pub mod LaterTrees
+pub mod StubHomes
+pub mod GraftedTrees
+pub mod UnwoundTrees
+pub mod UnwindingSteps
+pub mod Within
+pub mod Windows
+pub mod NormalForms
+pub mod Renumbered
