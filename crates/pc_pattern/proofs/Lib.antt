@@ -24,6 +24,8 @@ pub mod LedRows
 pub mod Looking
 pub mod Sizes
 pub mod Progress
+pub mod SeenWindows
+pub mod LedSeen
 pub mod Steps
 pub mod States
 pub mod Turns

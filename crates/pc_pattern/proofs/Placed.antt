@@ -18,6 +18,7 @@ use Rattle.pc_pattern.specs.declared.error.SearchError.{SearchError}
 use Rattle.pc_pattern.specs.declared.error.SearchError.TheVariants.{Memory, NoPattern}
 use Rattle.pc_pattern.specs.Searches.{bare_leaf}
 use Rattle.pc_pattern.proofs.Keys.{map_at}
+use Rattle.pc_shifts.proofs.Renumbered.{renumbering_normal}
 use Rattle.pc_pattern.specs.models.Pools.{Pool, keys_in, IsNowhere, IsPlaced, placed_known, placed_new, Joins, IsNumbered, numbered_known, numbered_new, IsSettled}
 use Rattle.pc_pattern.specs.models.Leading.{KeyRefused, key_memory, key_many, WindowRefused, refused_memory, refused_many}
 
@@ -80,21 +81,28 @@ placed_of key olds news number is_new new are at stored = by (list_any (is_key k
 
 pub ruleset placed = (placed_of)
 
+-- the first key is alone
+pub placed_first : (keys more : List (List ℕ)) (key : List ℕ) (number : ℕ) (is_new : Bool) → keys ≡ [] → IsPlaced keys key number is_new more
+    → more ≡ key ∷ []
+placed_first [] more key number is_new none (placed_known at) = absurd (cc)
+placed_first [] more key number is_new none (placed_new nowhere) = refl
+placed_first (k ∷ keys) more key number is_new none placed = absurd (cc)
+
 -- ---- how many keys there are
 
 -- a known key is one of them
-is_known : (keys more : List (List ℕ)) (key : List ℕ) (number : ℕ) (is_new : Bool) → is_new ≡ false → IsPlaced keys key number is_new more
+pub is_known : (keys more : List (List ℕ)) (key : List ℕ) (number : ℕ) (is_new : Bool) → is_new ≡ false → IsPlaced keys key number is_new more
     → (more ≡ keys) × (slice_get keys number ≡ Some key)
 is_known keys more key number false e (placed_known at) = (refl, at)
 is_known keys more key number true e placed = absurd (cc)
 
 -- a new key stands behind them
-is_last : (keys more : List (List ℕ)) (key : List ℕ) (number : ℕ) (is_new : Bool) → is_new ≡ true → IsPlaced keys key number is_new more
+pub is_last : (keys more : List (List ℕ)) (key : List ℕ) (number : ℕ) (is_new : Bool) → is_new ≡ true → IsPlaced keys key number is_new more
     → IsNowhere keys key × (number ≡ length keys) × (more ≡ keys ++ key ∷ [])
 is_last keys more key number true e (placed_new none) = (none, refl, refl)
 is_last keys more key number false e placed = absurd (cc)
 
-many_in : (keys : List MemberKey) → length (keys_in keys) ≡ length keys
+pub many_in : (keys : List MemberKey) → length (keys_in keys) ≡ length keys
 many_in keys = length-map keys (λ (k : MemberKey). k.bytes.items)
 
 -- where a number is within the rows, so are the keys
@@ -143,7 +151,11 @@ settled_again w later proper renumbers settled nodes =
     let same : later.names.next_variable ≡ (renumbered (window_in w)).next_variable = ap (λ (u : Window). u.next_variable) renumbers in
     let fewer = renumbered_variables (window_in w) proper in
     let variables = settled.variables in
-    record { nodes = nodes; variables = omega (arith, same, fewer, variables) }
+    record {
+      normal = renumbering_normal (window_in w) (window_in later) renumbers settled.normal;
+      nodes = nodes;
+      variables = omega (arith, same, fewer, variables);
+    }
 
 pub member_known : (keys news : List (List ℕ)) (waiting : List Window) (w : Window) (key : List ℕ) (number : ℕ) (is_new : Bool) → is_new ≡ false
     → IsPlaced keys key number is_new news → key ≡ key_of w

@@ -24,7 +24,7 @@ use Rattle.pc_canon.proofs.ParameterLists.{parameters_listed, parameters_distinc
 use Rattle.pc_automaton.specs.Automaton.{AutomatonState, names_written}
 use Rattle.pc_automaton.specs.Reachable.{IsLedTo, EachIsReachable}
 use Rattle.pc_pattern.specs.declared.error.SearchError.{SearchError}
-use Rattle.pc_pattern.specs.Searches.{Rules, RowFor, Settles, Search, begins, takes, StateFor, IsPattern}
+use Rattle.pc_pattern.specs.Searches.{Rules, RowFor, Settles, Search, begins, takes, StateFor}
 use Rattle.pc_pattern.specs.Pattern.{IsNotFound}
 use Rattle.pc_pattern.specs.Recording.{EachFilled, TakesEach, IsRecorded}
 use Rattle.pc_pattern.specs.models.Pools.{Pool, IsSmall}

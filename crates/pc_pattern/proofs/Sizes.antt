@@ -33,6 +33,7 @@ use Rattle.pc_canon.specs.Pairs.{Pair}
 use Rattle.pc_renumber.specs.Renumbering.{Renumbers}
 use Rattle.pc_renumber.proofs.Renumbered.{renumbered_size, renumbered_names, renumbered_parts}
 use Rattle.pc_automaton.specs.declared.automaton.AutomatonLeaf.{AutomatonLeaf}
+use Rattle.pc_shifts.specs.Alike.{HasNormalForms}
 use Rattle.pc_pattern.specs.Searches.{Rules, Settles, BringsOn}
 use Rattle.pc_pattern.specs.models.Pools.{Pool, numbered_known, numbered_new, CanBringOn, names_a_turn, tags_a_turn, IsSmall}
 use Rattle.pc_pattern.specs.models.Leading.{WindowLeads, leads_member, leads_bare, LeftLeads, leads_rest, leads_region, leads_end, leads_trap}
@@ -105,9 +106,10 @@ module _ (table : Table) where
     pub parts : PartsAreThere table (tags_a_turn * turns) (whole w.front)
 
   -- it may be brought on, if it is proper, for as many turns as there may be
-  pub can_bring_on : (turns : ℕ) (w : Window) → turns ≤ 512 → IsProper w → IsRest turns w → CanBringOn table w
-  can_bring_on turns w le proper rest = record {
+  pub can_bring_on : (turns : ℕ) (w : Window) → turns ≤ 512 → IsProper w → HasNormalForms w → IsRest turns w → CanBringOn table w
+  can_bring_on turns w le proper normal rest = record {
     proper = proper;
+    normal = normal;
     size = rest.size;
     names = (let names = rest.names in omega (arith, names, le));
     parts = parts_higher table (tags_a_turn * turns) (2 ^ 30) (whole w.front) (omega (arith, le)) rest.parts;

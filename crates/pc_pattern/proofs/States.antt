@@ -1,5 +1,5 @@
 -- The first member of a search, and the state of a member, as the code makes them.
-use Rattle.std.proofs.Common.{◌≡◌, ℕ, ◌+◌, ◌≤◌, ◌<◌, [], length, sym, ◌∙◌, ap, subst, arith}
+use Rattle.std.proofs.Common.{◌≡◌, ℕ, ◌+◌, ◌≤◌, ◌<◌, ◌^◌, [], length, sym, ◌∙◌, ap, subst, arith}
 use Rattle.std.specs.Prelude.{Result, Err, IfErr}
 use Rattle.pc_word.specs.declared.item.Limits.{Limits}
 use Rattle.pc_word.specs.MachineLimits.{most_rows}
@@ -22,6 +22,8 @@ use Rattle.pc_window.proofs.WindowsStored.{whole_in, in_nodes_behind}
 use Rattle.pc_window.proofs.Filling.{filling_limits}
 use Rattle.pc_fill.specs.Fillable.{IsFillable, FilledFrom}
 use Rattle.pc_unwind.specs.Unwindable.{CanUnwind}
+use Rattle.pc_shifts.specs.Alike.{HasNormalForms}
+use Rattle.pc_shifts.proofs.NormalForms.{filling_normal, cutting_normal, opened_normal}
 use Rattle.pc_unwind.proofs.Opened.{opened_unwinds}
 use Rattle.pc_automaton.specs.Automaton.{AutomatonState}
 use Rattle.pc_pattern.specs.declared.error.SearchError.{SearchError}
@@ -41,12 +43,21 @@ opened_can table limits region w there is =
     let many = as_many table.regions in
     subst (CanUnwind (table_of table)) (sym is) (opened_unwinds (table_of table) table.kept limits region (omega (arith, there, many)))
 
+-- its forms are in normal form
+pub opened_forms : (table : Table) (limits : Limits) (region : ℕ) (w : StoredWindow) → window_in w ≡ opened_window table limits region
+    → HasNormalForms (window_in w)
+opened_forms table limits region w is = opened_normal table limits region (window_in w) is
+
 -- a window that was just opened is not too large
 pub opened_size : (w : StoredWindow) → IsJustOpened w → tree_size (whole (window_in w).front) ≤ most_unwound
 opened_size w just =
     let size = just.size in
     let same = ap (λ (t : Tree). tree_size t) (whole_in w.tree) in
     omega (arith, size, same)
+
+-- it has few form variables
+pub opened_variables : (w : StoredWindow) → IsJustOpened w → w.names.next_variable ≤ 2 ^ 30
+opened_variables w just = let few = just.variables in omega (arith, few)
 
 pub first_of : (table : Table) (bounds : Bounds) (region : ℕ) (opened : StoredWindow) (unwound first : Window)
     → window_in opened ≡ opened_window table bounds.limits region → IsJustOpened opened → UnwindsTo table bounds.extent.window (window_in opened) unwound
@@ -95,10 +106,13 @@ filled_grown w filled fills from proper limits =
 
 -- what is left of it may be brought on
 pub rests_able : (table : Table) (w filled : StoredWindow) (cut : Row Left) → FillsTo (window_in w) (window_in filled) → FilledFrom w filled
-    → IsProper (window_in filled) → AreLimits w.limits → Cuts table (window_in filled) cut → IsSmall table most_rows (window_in w) → EachLeft IsProper cut
-    → EachLeft (CanBringOn table) cut
-rests_able table w filled cut fills from proper limits cuts small each =
-    each_and IsProper (IsRest table most_rows) (CanBringOn table) (λ v p rest. can_bring_on table most_rows v (omega arith) p rest) cut each
+    → IsProper (window_in filled) → AreLimits w.limits → Cuts table (window_in filled) cut → IsSettled w → IsSmall table most_rows (window_in w)
+    → EachLeft IsProper cut → EachLeft (CanBringOn table) cut
+rests_able table w filled cut fills from proper limits cuts settled small each =
+    let normal = filling_normal (uses (whole (window_in w).front)) (window_in w) (window_in filled) fills settled.normal in
+    each_and (λ v. IsProper v × HasNormalForms v) (IsRest table most_rows) (CanBringOn table)
+    (λ v p rest. can_bring_on table most_rows v (omega arith) p.0 p.1 rest) cut
+    (each_and IsProper HasNormalForms (λ v. IsProper v × HasNormalForms v) (λ v p n. (p, n)) cut each (cutting_normal table (window_in filled) cut cuts normal))
     (cut_rests table most_rows (window_in w) (window_in filled) cut fills cuts small (filled_grown w filled fills from proper limits))
 
 -- a window's state, by its parts, and what holds of the window that it was filled to

@@ -18,29 +18,28 @@ use Rattle.pc_window.specs.StoredWindow.{tree_in, window_in, InNodes}
 use Rattle.pc_window.proofs.WindowsStored.{whole_in}
 use Rattle.pc_unwind.specs.Unwindable.{HasGrown}
 use Rattle.pc_canon.specs.Pairs.{Pair}
+use Rattle.pc_shifts.specs.Alike.{HasNormalForms}
+use Rattle.pc_shifts.proofs.NormalForms.{rebasing_normal, unwinding_normal, tidying_normal}
 use Rattle.pc_automaton.specs.declared.automaton.AutomatonLeaf.{AutomatonLeaf}
 use Rattle.pc_automaton.specs.declared.automaton.AutomatonLeaf.TheVariants.{To}
 use Rattle.pc_pattern.specs.declared.error.SearchError.{SearchError}
 use Rattle.pc_pattern.specs.declared.error.SearchError.TheVariants.{Memory}
 use Rattle.pc_pattern.specs.declared.leading.Bounds.{Bounds}
-use Rattle.pc_pattern.specs.Searches.{Rules, BringsOn, bare_leaf}
+use Rattle.pc_pattern.specs.Searches.{Rules, Settles, bare_leaf}
 use Rattle.pc_pattern.specs.models.Renaming.{renamed_bare, arguments_for}
-use Rattle.pc_pattern.specs.models.Pools.{Pool, IsNumbered, CanBringOn, IsSettled}
+use Rattle.pc_pattern.specs.models.Pools.{Pool, IsNumbered, CanBringOn, IsRebased, IsSettled}
+use Rattle.pc_pattern.specs.models.Seen.{RebasedLeads, RebasedRefused, rebased_memory, rebased_many}
 use Rattle.pc_pattern.specs.models.Leading.{rules_within, WindowLeads, leads_member, leads_bare, LeftLeads, leads_rest, leads_region, leads_end, leads_trap}
 use Rattle.pc_pattern.specs.models.Leading.{RowLeads, leads_plain, leads_written, leads_test, leads_leaf}
 use Rattle.pc_pattern.specs.models.Leading.{WindowRefused, LeftRefused, refused_here, refused_rest}
 use Rattle.pc_pattern.specs.models.Leading.{RowRefused, refused_row, refused_below, refused_yes, refused_no, refused_leaf}
 use Rattle.pc_pattern.proofs.LedRows.{none_bare}
 use Rattle.pc_pattern.proofs.Placed.{member_out}
+use Rattle.pc_pattern.proofs.SeenWindows.{keeps_numbered, keeps_met}
 use Rattle.pc_pattern.proofs.Sizes.{can_unwind, rebased_same}
 use Rattle.pc_word.specs.Naming.{with_dest}
 
 -- ---- windows that are brought on
-
-pub brings_of : (table : Table) (bounds : Bounds) (w rebased unwound later : Window) → Rebases w rebased → UnwindsTo table bounds.extent.window rebased unwound
-    → Tidies unwound later → BringsOn (rules_within table bounds) w later
-brings_of table bounds w rebased unwound later rebases unwinds tidies =
-    record { rebased = rebased; rebases = rebases; settles = record { unwound = unwound; unwinds = unwinds; tidies = tidies } }
 
 -- a window that was unwound is not too large
 pub unwound_size : (table : Table) (number : ℕ) (w unwound later : StoredWindow) → tree_size (whole (window_in w).front) ≤ most_unwound
@@ -63,24 +62,45 @@ unwound_names table number w unwound later size names grown tidies =
 
 -- and few form variables
 pub unwound_settled : (table : Table) (number : ℕ) (w unwound later : StoredWindow) → tree_size (whole (window_in w).front) ≤ most_unwound
-    → w.names.next_variable ≤ 2 ^ 30 → HasGrown table number (window_in w) (window_in unwound) → Tidies (window_in unwound) (window_in later)
-    → InNodes true later.tree → IsSettled later
-unwound_settled table number w unwound later size variables grown tidies nodes =
+    → w.names.next_variable ≤ 2 ^ 30 → HasGrown table number (window_in w) (window_in unwound) → UnwindsTo table number (window_in w) (window_in unwound)
+    → Tidies (window_in unwound) (window_in later) → HasNormalForms (window_in w) → InNodes true later.tree → IsSettled later
+unwound_settled table number w unwound later size variables grown unwinds tidies normal nodes =
+    let unwound_normal = unwinding_normal table number (window_in w) (window_in unwound) unwinds normal in
     let larger = grown.size in
     let more = grown.variables in
     let same : later.names.next_variable ≡ unwound.names.next_variable = ap (λ (u : Window). u.next_variable) tidies in
-    record { nodes = nodes; variables = omega (arith, size, larger, more, same, variables) }
+    record {
+      normal = tidying_normal (window_in unwound) (window_in later) tidies unwound_normal;
+      nodes = nodes;
+      variables = omega (arith, size, larger, more, same, variables);
+    }
 
 -- a window that was rebased is as large as before
 pub rebased_size : (table : Table) (w v : Window) → CanBringOn table w → Rebases w v → tree_size (whole v.front) ≤ most_unwound
 rebased_size table w v can rebases =
     subst (λ (t : Tree). tree_size t ≤ most_unwound) (sym (rebased_same w v rebases can.proper).0) can.size
 
-pub rebased_names : (table : Table) (w v : StoredWindow) → CanBringOn table (window_in w) → length v.names.forms ≡ length w.names.forms
-    → length v.names.forms ≤ 2 ^ 30
-rebased_names table w v can same = let names = can.names in omega (arith, same, names)
+-- it is rebased
+pub is_rebased : (table : Table) (w v : StoredWindow) → CanBringOn table (window_in w) → Rebases (window_in w) (window_in v) → InNodes true v.tree
+    → length v.names.forms ≡ length w.names.forms → v.names.next_variable ≤ 2 ^ 30 → IsProper (window_in v) → IsRebased table v
+is_rebased table w v can rebases nodes same variables proper = record {
+  proper = proper;
+  normal = rebasing_normal (window_in w) (window_in v) rebases can.normal;
+  nodes = nodes;
+  able = can_unwind table (window_in w) (window_in v) can rebases variables;
+  size = subst (λ (t : Tree). tree_size t ≤ most_unwound) (whole_in v.tree) (rebased_size table (window_in w) (window_in v) can rebases);
+  names = let names = can.names in omega (arith, same, names);
+  variables = variables;
+}
 
-pub ruleset steps = (can_unwind, brings_of, unwound_size, unwound_names, unwound_settled, rebased_size, rebased_names)
+pub whole_size : (w : StoredWindow) → tree_size (tree_in w.tree) ≤ most_unwound → tree_size (whole (window_in w).front) ≤ most_unwound
+whole_size w size = subst (λ (t : Tree). tree_size t ≤ most_unwound) (sym (whole_in w.tree)) size
+
+pub settles_of : (table : Table) (bounds : Bounds) (w unwound later : Window) → UnwindsTo table bounds.extent.window w unwound → Tidies unwound later
+    → Settles (rules_within table bounds) w later
+settles_of table bounds w unwound later unwinds tidies = record { unwound = unwound; unwinds = unwinds; tidies = tidies }
+
+pub ruleset steps = (is_rebased, settles_of, whole_size, unwound_size, unwound_names, unwound_settled)
 
 -- ---- leaves
 
@@ -113,15 +133,48 @@ window_bare written pool w leaf some = leads_bare (renamed_whole written w (Some
 pub left_memory : (rules : Rules) (rows : ℕ) (pool : Pool) (left : Left) (error : SearchError) → error ≡ Memory → LeftRefused rules rows pool left error
 left_memory rules rows pool left error is = subst (LeftRefused rules rows pool left) (sym is) refused_here
 
-pub left_rest : (rules : Rules) (written : List Pair) (pool later : Pool) (rest brought : Window) (leaf : AutomatonLeaf) → BringsOn rules rest brought
-    → WindowLeads written pool brought leaf later → LeftLeads rules written pool (Rest rest) leaf later
-left_rest rules written pool later rest brought leaf brings leads = leads_rest brings leads
+pub left_rest : (rules : Rules) (written : List Pair) (pool later : Pool) (rest rebased : Window) (leaf : AutomatonLeaf) → Rebases rest rebased
+    → RebasedLeads rules written pool rebased leaf later → LeftLeads rules written pool (Rest rest) leaf later
+left_rest rules written pool later rest rebased leaf rebases leads =
+    leads_rest (record { rebased = rebased; rebases = rebases; settles = leads.settles }) leads.leads
 
-pub left_refused : (rules : Rules) (rows : ℕ) (pool : Pool) (rest brought : Window) (error : SearchError) → BringsOn rules rest brought
-    → WindowRefused rows pool brought error → LeftRefused rules rows pool (Rest rest) error
-left_refused rules rows pool rest brought error brings refused = refused_rest brings refused
+pub left_refused : (rules : Rules) (rows : ℕ) (pool : Pool) (rest rebased : Window) (error : SearchError) → Rebases rest rebased
+    → RebasedRefused rules rows pool rebased error → LeftRefused rules rows pool (Rest rest) error
+left_refused rules rows pool rest rebased error rebases rebased_memory = refused_here
+left_refused rules rows pool rest rebased error rebases (rebased_many settles refused) =
+    refused_rest (record { rebased = rebased; rebases = rebases; settles = settles }) refused
 
-pub ruleset leaves = (names_there, left_to_do, window_member, window_bare, member_out, left_memory, left_rest, left_refused, leads_region, leads_end, leads_trap)
+-- ---- rebased windows
+
+pub rebased_leads : (rules : Rules) (written : List Pair) (pool later : Pool) (w brought : Window) (leaf : AutomatonLeaf) → Settles rules w brought
+    → WindowLeads written pool brought leaf later → RebasedLeads rules written pool w leaf later
+rebased_leads rules written pool later w brought leaf settles leads = record { brought = brought; settles = settles; leads = leads }
+
+pub rebased_refused : (rules : Rules) (rows : ℕ) (pool : Pool) (w brought : Window) (error : SearchError) → Settles rules w brought
+    → WindowRefused rows pool brought error → RebasedRefused rules rows pool w error
+rebased_refused rules rows pool w brought error settles refused = rebased_many settles refused
+
+pub rebased_out : (rules : Rules) (rows : ℕ) (pool : Pool) (w : Window) (error : SearchError) → error ≡ Memory → RebasedRefused rules rows pool w error
+rebased_out rules rows pool w error is = subst (RebasedRefused rules rows pool w) (sym is) rebased_memory
+
+pub ruleset leaves = (
+  names_there,
+  left_to_do,
+  window_member,
+  window_bare,
+  member_out,
+  left_memory,
+  left_rest,
+  left_refused,
+  leads_region,
+  leads_end,
+  leads_trap,
+  keeps_numbered,
+  keeps_met,
+  rebased_leads,
+  rebased_refused,
+  rebased_out,
+)
 
 -- ---- rows
 

@@ -1,3 +1,4 @@
 pub mod Renaming
 pub mod Pools
 pub mod Leading
+pub mod Seen

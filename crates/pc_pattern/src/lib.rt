@@ -11,6 +11,7 @@ mod pool;
 mod recorder;
 mod renaming;
 mod searching;
+mod seen;
 
 pub use error::{KeyList, SearchError};
 pub use laws::{laws_of_patterns, laws_of_searches};

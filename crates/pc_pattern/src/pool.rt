@@ -2,19 +2,22 @@
 ghost use Rattle.std.specs.Prelude.{◌≡◌, ◌<◌, ◌≤◌, ◌^◌, ◌++◌, ◌∷◌, [], None, length, map, IfSome, IfNone, IfOk, IfErr, OnOk};
 ghost use Rattle.std.specs.List.{AllByRecursion};
 ghost use Rattle.pc_window.specs.Tree.{whole, tree_size};
+ghost use Rattle.pc_window.specs.Names.{parameters_of};
 ghost use Rattle.pc_window.specs.Unwinding.{most_unwound};
 ghost use Rattle.pc_window.specs.Steps.{IsProper};
 ghost use Rattle.pc_window.specs.StoredWindow.{tree_in, window_in};
 ghost use Rattle.pc_canon.specs.Key.{key_of};
-ghost use Rattle.pc_pattern.specs.Searches.{bare_leaf};
+ghost use Rattle.pc_pattern.specs.Searches.{Rules, bare_leaf};
+ghost use Rattle.pc_pattern.specs.models.Seen.{AreSeen};
 ghost use Rattle.pc_pattern.specs.models.Pools.{keys_in, pool_in, IsPlaced, Joins, IsNumbered, IsSettled};
 ghost use Rattle.pc_pattern.specs.models.Leading.{KeyRefused, WindowRefused};
 
 use crate::error::{KeyList, SearchError};
 use crate::member_key::MemberKey;
+use crate::seen::Seen;
 use indexmap::IndexSet;
 use pc_canon::{WindowKey, key};
-use pc_renumber::renumber;
+use pc_renumber::renumber_by;
 use pc_window::{Window, WindowError};
 use std::alloc::{AllocError, Global};
 use std::collections::VecDeque;
@@ -27,6 +30,8 @@ pub(crate) struct Pool {
     pub(crate) keys: IndexSet<MemberKey>,
     /// The windows of those that wait for their rows.
     pub(crate) waiting: VecDeque<Window>,
+    /// The windows that were left at leaves, and the members to which they came.
+    pub(crate) seen: Seen,
 }
 
 impl Pool {
@@ -35,6 +40,7 @@ impl Pool {
         ensures first { IfSome result (λ window. self.old.waiting.items ≡ window ∷ self.new.waiting.items) }
         ensures none { IfNone result (self.old.waiting.items ≡ []) }
         ensures keys { self.new.keys ≡ self.old.keys }
+        ensures seen { self.new.seen ≡ self.old.seen }
     {
         self.waiting.pop_front()
     }
@@ -48,18 +54,26 @@ pub(crate) fn begun(alloc: Global, first: Window) -> Result<Pool, WindowError>
     requires names { length first.names.forms < 2 ^ 31 }
     ensures keys { IfOk result (λ pool. keys_in pool.keys.keys ≡ key_of (window_in first) ∷ []) }
     ensures waiting { IfOk result (λ pool. pool.waiting.items ≡ first ∷ []) }
+    ensures seen { IfOk result (λ pool. (rules : Rules) → AreSeen rules (keys_in pool.keys.keys) pool.seen) }
 {
     let WindowKey { bytes, .. } = key(alloc, &first)?;
     let mut keys = IndexSet::new(alloc);
     placed(MemberKey { bytes }, &mut keys)?;
     let mut waiting = VecDeque::new(alloc);
     put_behind(first, &mut waiting)?;
-    Ok(Pool { keys, waiting })
+    Ok(Pool {
+        keys,
+        waiting,
+        seen: Seen::nothing(alloc),
+    })
 }
 
 /// The number of a key among the keys, and whether it is new; then it stands last from there on.
 #[tactic(auto, using(crate::proofs::Placed::placed))]
-fn placed(key: MemberKey, keys: &mut IndexSet<MemberKey>) -> Result<(usize, bool), AllocError>
+pub(crate) fn placed(
+    key: MemberKey,
+    keys: &mut IndexSet<MemberKey>,
+) -> Result<(usize, bool), AllocError>
     ensures { IfOk result (λ r. IsPlaced (keys_in keys.old.keys) key.bytes.items r.0 r.1 (keys_in keys.new.keys)) }
 {
     Ok(keys.insert_full(key)?)
@@ -106,25 +120,32 @@ fn number_of(
     Ok((number as u32, is_new))
 }
 
-/// Puts a window behind those that wait, renumbered.
+/// Puts a window with these parameters behind those that wait, renumbered.
 #[tactic(auto, using(crate::proofs::Placed::settled_again))]
-fn join(alloc: Global, window: Window, waiting: &mut VecDeque<Window>) -> Result<(), WindowError>
+fn join(
+    alloc: Global,
+    window: Window,
+    parameters: &[u32],
+    waiting: &mut VecDeque<Window>,
+) -> Result<(), WindowError>
     requires proper { IsProper (window_in window) }
     requires settled { IsSettled window }
+    requires parameters { parameters.now ≡ parameters_of (whole (window_in window).front) }
     ensures waits { OnOk result (Joins (map window_in waiting.old.items) (window_in window) (map window_in waiting.new.items)) }
     ensures settled { OnOk result (AllByRecursion IsSettled waiting.old.items → AllByRecursion IsSettled waiting.new.items) }
 {
-    let window = renumber(alloc, window)?;
+    let window = renumber_by(alloc, window, parameters)?;
     put_behind(window, waiting)?;
     Ok(())
 }
 
-/// The number of a window that was brought on: that of the member with the same key, or the next one.
-/// Then the window waits, renumbered, unless there are as many members as there may be.
+/// The number of a window with these parameters that was brought on: that of the member with the same
+/// key, or the next one. Then the window waits, renumbered, unless there are as many members as there may be.
 #[tactic(auto, using(crate::proofs::Placed::members))]
 pub(crate) fn numbered(
     alloc: Global,
     window: Window,
+    parameters: &[u32],
     key: MemberKey,
     pool: &mut Pool,
     rows: u16,
@@ -132,10 +153,12 @@ pub(crate) fn numbered(
     requires proper { IsProper (window_in window) }
     requires settled { IsSettled window }
     requires bare { bare_leaf (whole (window_in window).front) ≡ None }
+    requires parameters { parameters.now ≡ parameters_of (whole (window_in window).front) }
     requires key { key.bytes.items ≡ key_of (window_in window) }
     requires room { length pool.old.keys.keys ≤ rows }
     ensures numbered { IfOk result (λ number. IsNumbered (pool_in pool.old) (window_in window) number (pool_in pool.new)) }
     ensures settled { OnOk result (AllByRecursion IsSettled pool.old.waiting.items → AllByRecursion IsSettled pool.new.waiting.items) }
+    ensures seen { pool.new.seen ≡ pool.old.seen }
     ensures room { OnOk result (length pool.new.keys.keys ≤ rows) }
     ensures refused { IfErr result (λ error. WindowRefused rows (pool_in pool.old) (window_in window) error) }
 {
@@ -143,6 +166,6 @@ pub(crate) fn numbered(
     if !is_new {
         return Ok(number);
     }
-    join(alloc, window, &mut pool.waiting)?;
+    join(alloc, window, parameters, &mut pool.waiting)?;
     Ok(number)
 }

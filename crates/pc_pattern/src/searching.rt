@@ -12,7 +12,8 @@ ghost use Rattle.pc_automaton.specs.Automaton.{state_in, states_in};
 ghost use Rattle.pc_automaton.specs.Reachable.{EachIsReachable};
 ghost use Rattle.pc_pattern.specs.Pattern.{rules_for, IsFound, IsNotFound};
 ghost use Rattle.pc_pattern.specs.Recording.{IsRecorded};
-ghost use Rattle.pc_pattern.specs.models.Pools.{pool_in, IsSmall, IsSettled};
+ghost use Rattle.pc_pattern.specs.models.Pools.{pool_in, keys_in, IsSmall, IsSettled};
+ghost use Rattle.pc_pattern.specs.models.Seen.{AreSeen};
 ghost use Rattle.pc_pattern.specs.models.Leading.{rules_within, Made, Unmade, IsFirst};
 
 use crate::error::SearchError;
@@ -21,7 +22,7 @@ use crate::pool::{Pool, begun};
 use crate::recorder::{Recorder, Unrecorded};
 use crate::renaming::Renaming;
 use pc_automaton::{Automaton, AutomatonState, StateList, cut_front};
-use pc_fill::fill;
+use pc_fill::fill_from;
 use pc_table::RegionTable;
 use pc_unify::tidy;
 use pc_unwind::unwind;
@@ -150,13 +151,15 @@ fn state<R: Recorder>(
     requires limits { AreLimits window.limits }
     requires small { IsSmall (table_of table.now) most_rows (window_in window) }
     requires room { length pool.old.keys.keys ≤ bounds.extent.rows }
+    requires seen { AreSeen (rules_within (table_of table.now) bounds) (keys_in pool.old.keys.keys) pool.old.seen }
     ensures made { IfOk result (λ state. (made : Made (rules_within (table_of table.now) bounds) (window_in window) (pool_in pool.old) (state_in state) (pool_in pool.new)) × R.takes recorder.old made.filled recorder.new) }
     ensures settled { OnOk result (AllByRecursion IsSettled pool.old.waiting.items → AllByRecursion IsSettled pool.new.waiting.items) }
+    ensures seen { OnOk result (AreSeen (rules_within (table_of table.now) bounds) (keys_in pool.new.keys.keys) pool.new.seen) }
     ensures room { OnOk result (length pool.new.keys.keys ≤ bounds.extent.rows) }
     ensures unmade { IfErr result (λ error. Unmade (rules_within (table_of table.now) bounds) bounds.extent.rows (window_in window) (pool_in pool.old) error) }
 {
     let parameters = parameters_of(alloc, &window.tree, window.names.forms.len())?;
-    let filled = fill(alloc, window)?;
+    let filled = fill_from(alloc, window, parameters.as_slice())?;
     recorder.take(alloc, &filled)?;
     let mut next = filled.names.forms.len() as u32;
     let row = cut_front(alloc, filled, table)?;

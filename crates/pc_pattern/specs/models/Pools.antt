@@ -7,9 +7,11 @@ use Rattle.pc_window.specs.Unwinding.{most_unwound}
 use Rattle.pc_window.specs.WindowRun.{Window}
 use Rattle.pc_window.specs.Steps.{IsProper}
 use Rattle.pc_window.specs.There.{PartsAreThere}
-use Rattle.pc_window.specs.StoredWindow.{window_in, InNodes}
+use Rattle.pc_window.specs.StoredWindow.{tree_in, window_in, InNodes}
+use Rattle.pc_unwind.specs.Unwindable.{CanUnwind}
 use Rattle.pc_canon.specs.Key.{key_of}
 use Rattle.pc_renumber.specs.Renumbering.{Renumbers}
+use Rattle.pc_shifts.specs.Alike.{HasNormalForms}
 use Rattle.pc_pattern.specs.declared.member_key.MemberKey.{MemberKey}
 use Rattle.pc_pattern.specs.declared.pool.Pool.{Pool as StoredPool}
 
@@ -56,9 +58,20 @@ pub data IsNumbered (pool : Pool) (w : Window) : ℕ → Pool → Type 0 where
 -- a window that may be brought on
 pub record CanBringOn (table : Table) (w : Window) : Type 0 where
   pub proper : IsProper w
+  pub normal : HasNormalForms w
   pub size : tree_size (whole w.front) ≤ most_unwound
   pub names : w.next ≤ 2 ^ 30
   pub parts : PartsAreThere table (2 ^ 30) (whole w.front)
+
+-- a window that was rebased, and may be unwound
+pub record IsRebased (table : Table) (w : StoredWindow) : Type 0 where
+  pub proper : IsProper (window_in w)
+  pub normal : HasNormalForms (window_in w)
+  pub nodes : InNodes true w.tree
+  pub able : CanUnwind table (window_in w)
+  pub size : tree_size (tree_in w.tree) ≤ most_unwound
+  pub names : length w.names.forms ≤ 2 ^ 30
+  pub variables : w.names.next_variable ≤ 2 ^ 30
 
 -- more than the names that a window gets in a turn
 abbrev pub names_a_turn : ℕ
@@ -74,7 +87,8 @@ pub record IsSmall (table : Table) (turns : ℕ) (w : Window) : Type 0 where
   pub names : w.next ≤ names_a_turn * turns
   pub parts : PartsAreThere table (tags_a_turn * turns) (whole w.front)
 
--- what each window that waits keeps in memory
+-- what each window that waits keeps
 pub record IsSettled (w : StoredWindow) : Type 0 where
+  pub normal : HasNormalForms (window_in w)
   pub nodes : InNodes true w.tree
   pub variables : w.names.next_variable ≤ 2 ^ 30 + most_unwound

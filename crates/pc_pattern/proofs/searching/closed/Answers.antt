@@ -1,7 +1,11 @@
-use Rattle.std.proofs.Common.{◌++◌, ◌∷◌, [], rules}
+use Rattle.std.proofs.Common.{◌++◌, ◌∷◌, [], sym, subst, rules}
 use Rattle.std.specs.Prelude.{◌≡◌, Err}
 use Rattle.pc_pattern.specs.Recording.{took_none, took_one_more}
-use Rattle.pc_pattern.specs.models.Pools.{IsSettled}
+use Rattle.pc_table.specs.StoredTable.{table_of}
+use Rattle.pc_pattern.specs.declared.seen.Seen.{Seen}
+use Rattle.pc_pattern.specs.models.Pools.{keys_in, IsSettled}
+use Rattle.pc_pattern.specs.models.Leading.{rules_within}
+use Rattle.pc_pattern.specs.models.Seen.{AreSeen}
 use Rattle.pc_pattern.proofs.Turns.{all_of_one, all_of_more, begun, turn_proper, turn_limits, turn_small, turn_refused, turn_on, turn_smaller, turned}
 use Rattle.pc_pattern.proofs.searching.closed.Goals as goal
 
@@ -14,6 +18,7 @@ loop-window-init g c = (
     took_none,
   ),
   all_of_one IsSettled c.in_ok-pool.pool.waiting.items c.in_ok-first.first c.in_ok-pool.ensures.waiting c.in_ok-first.ensures.settled,
+  c.in_ok-pool.ensures.seen (rules_within (table_of c.args.table.now) c.args.bounds),
 )
 
 pub state-requires-clause-proper : goal.state-requires-clause-proper
@@ -33,6 +38,12 @@ state-requires-clause-small g c =
     let so_far = c.loop-window.invariant.0 in
     turn_small c.args.table.now c.args.bounds c.requires.limits c.requires.extent c.args.region c.loop-window.states so_far.0
     c.loop-window.pool c.next_waiting.new.self c.in-Some.window c.in-Some.ensures.first c.in-Some.ensures.keys so_far.1
+
+pub state-requires-clause-seen : goal.state-requires-clause-seen
+state-requires-clause-seen g c =
+    let rules = rules_within (table_of c.args.table.now) c.args.bounds in
+    subst (λ (s : Seen). AreSeen rules (keys_in c.next_waiting.new.self.keys.keys) s) (sym c.in-Some.ensures.seen)
+    (rw c.in-Some.ensures.keys c.loop-window.invariant.2)
 
 pub returns-in_err-state-clause-not_found : goal.returns-in_err-state-clause-not_found
 returns-in_err-state-clause-not_found g c =
@@ -64,6 +75,7 @@ loop-window-preserved g c =
       c.in_ok-state.ensures.settled
           (all_of_more IsSettled c.loop-window.pool.waiting.items c.next_waiting.new.self.waiting.items c.in-Some.window c.in-Some.ensures.first
           c.loop-window.invariant.1).1,
+      c.in_ok-state.ensures.seen,
     )
 
 pub returns-clause-recorded : goal.returns-clause-recorded

@@ -1,6 +1,8 @@
-use Rattle.std.proofs.Common.{rules}
+use Rattle.std.proofs.Common.{rules, ◌∙◌, sym, ap}
 use Rattle.std.specs.Prelude.{◌≡◌, Err}
-use Rattle.pc_window.specs.StoredWindow.{window_in}
+use Rattle.pc_window.specs.Names.{parameters_of}
+use Rattle.pc_window.specs.StoredWindow.{tree_in, window_in}
+use Rattle.pc_window.proofs.WindowsStored.{whole_in}
 use Rattle.pc_table.specs.StoredTable.{table_of}
 use Rattle.pc_automaton.specs.StoredLeft.{left_in}
 use Rattle.pc_pattern.specs.models.Pools.{pool_in}
@@ -9,8 +11,13 @@ use Rattle.pc_pattern.proofs.States.{fillable_of, made_of, refused_on}
 use Rattle.pc_pattern.proofs.searching.state.Goals as goal
 use Rattle.pc_word.specs.StoredRow.{row_in}
 
-pub fill-requires-clause-fillable : goal.fill-requires-clause-fillable
-fill-requires-clause-fillable g c = fillable_of (table_of c.args.table.now) c.args.window c.requires.settled c.requires.small
+pub fill_from-requires-clause-parameters : goal.fill_from-requires-clause-parameters
+fill_from-requires-clause-parameters g c =
+    let listed : c.as_slice.result.now ≡ parameters_of (tree_in c.args.window.tree) = search rules in
+    listed ∙ ap parameters_of (sym (whole_in c.args.window.tree))
+
+pub fill_from-requires-clause-fillable : goal.fill_from-requires-clause-fillable
+fill_from-requires-clause-fillable g c = fillable_of (table_of c.args.table.now) c.args.window c.requires.settled c.requires.small
 
 pub returns-clause-made : goal.returns-clause-made
 returns-clause-made g c =
