@@ -6,6 +6,8 @@ use Rattle.std.proofs.Math.Nat.{lt_of_mul-lt-mul_right}
 use Rattle.std.proofs.lemmas.Grind.{div_ceil_times}
 use Rattle.std.proofs.lemmas.List.Sums.{count_by-le-length}
 use Rattle.pc_automaton.specs.Automaton.{AutomatonState}
+use Rattle.pc_told.specs.Tellings.{Telling}
+use Rattle.pc_waiting.specs.declared.obstacle.Waiting.{Waiting}
 use Rattle.pc_cycles.specs.declared.chain.Chain.{Chain}
 use Rattle.pc_cycles.specs.declared.chain.Link.{Link}
 use Rattle.pc_cycles.specs.declared.transition.Transition.{Transition}
@@ -23,9 +25,9 @@ share_fits items rounds rows some fits =
     omega (arith, found)
 
 -- each item of a chain has a row of its own
-chain_kept : (states : List AutomatonState) (transitions : List Transition) (chain : Chain) → IsChain states transitions chain
+chain_kept : (states : List AutomatonState) (tellings : List Telling) (waits : List (List Waiting)) (transitions : List Transition) (chain : Chain) → IsChain states tellings waits transitions chain
     → chain_bound chain ≤ length transitions
-chain_kept states transitions chain is =
+chain_kept states tellings waits transitions chain is =
     let some = is.some_rounds in
     let same : chain.rounds ≡ max 1 chain.rounds = omega (arith, some) in
     let few = count_by-le-length (λ (link : Link). is_some link.item) chain.links in
@@ -34,13 +36,14 @@ chain_kept states transitions chain is =
     subst (λ (rounds : ℕ). div_ceil chain.items rounds ≤ length transitions) same
     (share_fits chain.items chain.rounds (length transitions) some (omega (arith, few, all, items)))
 
-recurrence_kept : (states : List AutomatonState) (transitions : List Transition) (chain : Option Chain) → IfSome chain (IsChain states transitions)
+recurrence_kept : (states : List AutomatonState) (tellings : List Telling) (waits : List (List Waiting)) (transitions : List Transition) (chain : Option Chain)
+    → IfSome chain (IsChain states tellings waits transitions)
     → recurrence_bound chain ≤ length transitions
-recurrence_kept states transitions None is = omega arith
-recurrence_kept states transitions (Some chain) is = chain_kept states transitions chain is
+recurrence_kept states tellings waits transitions None is = omega arith
+recurrence_kept states tellings waits transitions (Some chain) is = chain_kept states tellings waits transitions chain is
 
 pub bounds_are_kept : BoundsAreKept
-bounds_are_kept limits states tellings cycle is =
+bounds_are_kept limits states tellings waits cycle is =
     let room = is.takes in
-    let chain = recurrence_kept states cycle.transitions cycle.chain is.chain in
+    let chain = recurrence_kept states tellings waits cycle.transitions cycle.chain is.chain in
     omega (arith, room, chain)

@@ -1,33 +1,52 @@
 -- Chains of items round a cycle, link by link.
-use Rattle.std.proofs.Common.{◌≡◌, ℕ, ◌+◌, ◌%◌, ◌<◌, ◌≤◌, Bool, false, cond, List, [], ◌∷◌, ◌++◌, length, take, drop, get_or, refl, ◌∙◌, ap, subst, arith}
-use Rattle.std.specs.Prelude.{nat_eq, Some, None, slice_get}
+use Rattle.std.proofs.Common.{◌≡◌, ℕ, ◌+◌, ◌%◌, ◌<◌, ◌≤◌, Bool, true, false, cond, List, [], ◌∷◌, ◌++◌, length, take, drop, get_or, refl, sym, ◌∙◌, ap, subst, arith}
+use Rattle.std.specs.Prelude.{nat_eq, Option, Some, None, slice_get}
 use Rattle.std.proofs.lemmas.Nat.{mod_below}
 use Rattle.std.proofs.lemmas.List.{take_more, drop_more, drop_all, length-take-le}
 use Rattle.std.proofs.lemmas.Option.{slice_get-get_or}
 use Rattle.pc_word.specs.declared.item.Operand.TheVariants.{Name}
 use Rattle.pc_word.proofs.Places.{number_apart}
 use Rattle.pc_automaton.specs.Automaton.{AutomatonState}
+use Rattle.pc_told.specs.Tellings.{Telling}
+use Rattle.pc_waiting.specs.declared.obstacle.Waiting.{Waiting}
+use Rattle.pc_cycles.specs.declared.carrier.Carrier.{Carrier}
 use Rattle.pc_cycles.specs.declared.chain.Link.{Link}
+use Rattle.pc_cycles.specs.declared.told_item.ToldItem.{ToldItem}
 use Rattle.pc_cycles.specs.declared.transition.Transition.{Transition}
-use Rattle.pc_cycles.specs.Chains.{argument_for, written_from, Carries, Carry, by_no_link, by_link}
-use Rattle.pc_word.specs.declared.item.Item.{Item}
+use Rattle.pc_cycles.specs.Chains.{argument_for, takes_up, brings, GoesThrough, as_it_is, by_item, Carries, Carry, by_no_link, by_link}
 use Rattle.pc_word.specs.declared.item.Operand.{Operand}
-use Rattle.pc_word.specs.Items.{dest_of, reads}
+
+-- ---- through a row
+
+-- where no item is told it stays as it is
+pub stays : (items : List ToldItem) (entries : Option (List Waiting)) (from to : Carrier) (item : Option ℕ) → item ≡ None → from ≡ to → GoesThrough items entries from item to
+stays items entries from to item none same =
+    subst (λ (o : Option ℕ). GoesThrough items entries from o to) (sym none) (subst (λ (carrier : Carrier). GoesThrough items entries from None carrier) same as_it_is)
+
+-- else the item takes it up and brings the other
+pub is_brought : (items : List ToldItem) (entries : Option (List Waiting)) (from to : Carrier) (item : Option ℕ) (place : ℕ) (it : ToldItem) → item ≡ Some place
+    → slice_get items place ≡ Some it → takes_up it from ≡ true → brings entries it to ≡ true → GoesThrough items entries from item to
+is_brought items entries from to item place it some there taken brought =
+    subst (λ (o : Option ℕ). GoesThrough items entries from o to) (sym some) (by_item there taken brought)
+
+-- ---- links
 
 -- a link more
-pub carry_last : {states : List AutomatonState} {transitions : List Transition} {at name mid : ℕ} {links : List Link} → Carry states transitions at name links mid
+pub carry_last : {states : List AutomatonState} {tellings : List Telling} {waits : List (List Waiting)} {transitions : List Transition} {at : ℕ} {carrier mid : Carrier} {links : List Link}
+    → Carry states tellings waits transitions at carrier links mid
     → (place : ℕ) → place ≡ at + length links → (transition : Transition) → slice_get transitions (place % length transitions) ≡ Some transition
-    → (link : Link) → Carries states transition mid link → Carry states transitions at name (links ++ link ∷ []) link.parameter
-carry_last {states} {transitions} (by_no_link {at} {name}) place is transition there link carries =
+    → (link : Link) → Carries states tellings waits transition mid link → Carry states tellings waits transitions at carrier (links ++ link ∷ []) link.to
+carry_last {states} {tellings} {waits} {transitions} (by_no_link {at} {carrier}) place is transition there link carries =
     let here : place ≡ at = omega (arith, is) in
     by_link (subst (λ (n : ℕ). slice_get transitions (n % length transitions) ≡ Some transition) here there) carries by_no_link
 carry_last (by_link first_there first_carries further) place is transition there link carries =
     by_link first_there first_carries (carry_last further place (omega (arith, is)) transition there link carries)
 
-pub carry_next : (states : List AutomatonState) (transitions : List Transition) (links : List Link) (name mid at : ℕ) (d : Link) (transition : Transition)
-    → at < length links → Carry states transitions 0 name (take at links) mid → slice_get transitions (at % length transitions) ≡ Some transition
-    → Carries states transition mid (get_or links at d) → Carry states transitions 0 name (take (at + 1) links) (get_or links at d).parameter
-carry_next states transitions links name mid at d transition below so_far there carries =
+pub carry_next : (states : List AutomatonState) (tellings : List Telling) (waits : List (List Waiting)) (transitions : List Transition) (links : List Link)
+    (carrier mid : Carrier) (at : ℕ) (d : Link) (transition : Transition)
+    → at < length links → Carry states tellings waits transitions 0 carrier (take at links) mid → slice_get transitions (at % length transitions) ≡ Some transition
+    → Carries states tellings waits transition mid (get_or links at d) → Carry states tellings waits transitions 0 carrier (take (at + 1) links) (get_or links at d).to
+carry_next states tellings waits transitions links carrier mid at d transition below so_far there carries =
     let long = length-take-le at links (omega (arith, below)) in
     rw (take_more links at d below) (carry_last so_far at (omega (arith, long)) transition there (get_or links at d) carries)
 
@@ -69,9 +88,3 @@ no_arguments_left parameters arguments parameter at ended =
 pub no_parameters_left : (parameters : List ℕ) (arguments : List Operand) (parameter at : ℕ) → length parameters ≤ at
     → argument_for (drop at parameters) (drop at arguments) parameter ≡ None
 no_parameters_left parameters arguments parameter at ended = ap (λ (l : List ℕ). argument_for l (drop at arguments) parameter) (drop_all at parameters ended)
-
--- ---- what is written
-
--- an item writes its name where it reads the other one
-pub written_by : (name : ℕ) (item : Item) (b : Bool) → reads item name ≡ b → written_from name (Some item) ≡ cond b (dest_of item) None
-written_by name item b e = ap (λ (c : Bool). cond c (dest_of item) None) e

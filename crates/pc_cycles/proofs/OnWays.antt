@@ -14,7 +14,7 @@ use Rattle.pc_automaton.specs.Automaton.{AutomatonState, state_in, states_in}
 use Rattle.pc_told.specs.declared.told_row.ToldRow.{ToldRow}
 use Rattle.pc_told.specs.Tellings.{Telling, telling_in, tellings_in}
 use Rattle.pc_cycles.specs.declared.transition.Transition.{Transition}
-use Rattle.pc_cycles.specs.Transitions.{leaf_to, successor_of, successor_from, next_of, items_to, tests_to, origins_to, items_from, tests_from, origins_from, items_along, tests_along, origins_along}
+use Rattle.pc_cycles.specs.Transitions.{leaf_to, successor_of, successor_from, next_of, items_to, tests_to, taken_to, origins_to, told_items_to, advance_to, items_from, tests_from, taken_from, origins_from, told_items_from, advance_from, items_along, tests_along, taken_along, origins_along}
 use Rattle.pc_cycles.specs.Chains.{passed_by, passed_from}
 use Rattle.pc_cycles.specs.models.Circles.{AreThere, HaveFewLeaves}
 
@@ -42,6 +42,24 @@ module _ (stored : List StoredState) where
   pub tests_of_state : (number leaf : ℕ) (state : StoredState) → slice_get stored number ≡ Some state
       → tests_to (row_in (λ leaf. leaf) state.row) leaf ≡ tests_from (slice_get (states_in stored) number) leaf
   tests_of_state number leaf state there = sym (ap (λ (o : Option AutomatonState). tests_from o leaf) (map_at state_in stored number state there))
+
+  pub taken_of_state : (number leaf : ℕ) (state : StoredState) → slice_get stored number ≡ Some state
+      → taken_to (row_in (λ leaf. leaf) state.row) leaf ≡ taken_from (slice_get (states_in stored) number) leaf
+  taken_of_state number leaf state there = sym (ap (λ (o : Option AutomatonState). taken_from o leaf) (map_at state_in stored number state there))
+
+  pub told_items_of_state : (rows : List ToldRow) (number leaf : ℕ) (state : StoredState) (row : ToldRow) → slice_get stored number ≡ Some state
+      → slice_get rows number ≡ Some row
+      → told_items_to (row_in (λ leaf. leaf) state.row) (telling_in row) leaf
+      ≡ told_items_from (slice_get (states_in stored) number) (slice_get (tellings_in rows) number) leaf
+  told_items_of_state rows number leaf state row there told =
+      sym (λ i. told_items_from (map_at state_in stored number state there i) (map_at telling_in rows number row told i) leaf)
+
+  pub advance_of_state : (rows : List ToldRow) (number leaf : ℕ) (state : StoredState) (row : ToldRow) → slice_get stored number ≡ Some state
+      → slice_get rows number ≡ Some row
+      → advance_to (row_in (λ leaf. leaf) state.row) (telling_in row) leaf
+      ≡ advance_from (slice_get (states_in stored) number) (slice_get (tellings_in rows) number) leaf
+  advance_of_state rows number leaf state row there told =
+      sym (λ i. advance_from (map_at state_in stored number state there i) (map_at telling_in rows number row told i) leaf)
 
   pub origins_of_state : (of_items : Bool) (rows : List ToldRow) (number leaf : ℕ) (state : StoredState) (row : ToldRow) → slice_get stored number ≡ Some state
       → slice_get rows number ≡ Some row
@@ -76,9 +94,26 @@ no_origins of_items rows number leaf state none = ap (λ (telling : Option Telli
     of_none (Some state) = refl
     of_none None = refl
 
+pub no_told_items : (rows : List ToldRow) (number leaf : ℕ) (state : Option AutomatonState) → slice_get rows number ≡ None
+    → told_items_from state (slice_get (tellings_in rows) number) leaf ≡ []
+no_told_items rows number leaf state none = ap (λ (telling : Option Telling). told_items_from state telling leaf) (none_told rows number none) ∙ of_none state
+  where
+    of_none : (state : Option AutomatonState) → told_items_from state None leaf ≡ []
+    of_none (Some state) = refl
+    of_none None = refl
+
+pub no_advance : (rows : List ToldRow) (number leaf : ℕ) (state : Option AutomatonState) → slice_get rows number ≡ None
+    → advance_from state (slice_get (tellings_in rows) number) leaf ≡ None
+no_advance rows number leaf state none = ap (λ (telling : Option Telling). advance_from state telling leaf) (none_told rows number none) ∙ of_none state
+  where
+    of_none : (state : Option AutomatonState) → advance_from state None leaf ≡ None
+    of_none (Some state) = refl
+    of_none None = refl
+
 -- ---- transition by transition
 
-module _ {X : Type 0} (all : List Transition → List X) (one : Transition → List X) (both : (first : Transition) (others : List Transition) → all (first ∷ others) ≡ one first ++ all others) where
+module _ {X : Type 0} (all : List Transition → List X) (one : Transition → List X)
+    (both : (first : Transition) (others : List Transition) → all (first ∷ others) ≡ one first ++ all others) where
   next_along : (way : List Transition) (at : ℕ) (d : Transition) (done : List X) → at < length way → done ++ all (drop at way) ≡ all way
       → (done ++ one (get_or way at d)) ++ all (drop (at + 1) way) ≡ all way
   next_along way at d done below so_far =
@@ -103,6 +138,14 @@ module _ (stored : List StoredState) (way : List Transition) (at : ℕ) (d : Tra
       ap (λ (l : List Operand). l ++ tests_along (states_in stored) (drop (at + 1) way))
       (is ∙ ap (λ (l : List Operand). tests ++ l) (tests_of_state stored (get_or way at d).state (get_or way at d).leaf state there))
       ∙ next_along (tests_along (states_in stored)) (λ t. tests_from (slice_get (states_in stored) t.state) t.leaf) (λ first others. refl) way at d tests below so_far
+
+  pub next_taken : (taken new : List Operand) → new ≡ taken ++ taken_to (row_in (λ leaf. leaf) state.row) (get_or way at d).leaf
+      → taken ++ taken_along (states_in stored) (drop at way) ≡ taken_along (states_in stored) way
+      → new ++ taken_along (states_in stored) (drop (at + 1) way) ≡ taken_along (states_in stored) way
+  next_taken taken new is so_far =
+      ap (λ (l : List Operand). l ++ taken_along (states_in stored) (drop (at + 1) way))
+      (is ∙ ap (λ (l : List Operand). taken ++ l) (taken_of_state stored (get_or way at d).state (get_or way at d).leaf state there))
+      ∙ next_along (taken_along (states_in stored)) (λ t. taken_from (slice_get (states_in stored) t.state) t.leaf) (λ first others. refl) way at d taken below so_far
 
 -- the origins of one transition more
 pub next_origins : (of_items : Bool) (states : List AutomatonState) (tellings : List Telling) (way : List Transition) (at : ℕ) (d : Transition) → at < length way → (origins new : List ℕ)

@@ -12,6 +12,7 @@ use Rattle.pc_word.proofs.Truth.{or_false, or_true}
 use Rattle.pc_automaton.specs.declared.automaton.AutomatonLeaf.TheVariants.{To}
 use Rattle.pc_automaton.specs.Automaton.{AutomatonState, IsAutomaton, IsStateAmong, LeafLeads, Takes}
 use Rattle.pc_told.specs.Tellings.{Telling}
+use Rattle.pc_waiting.specs.declared.obstacle.Waiting.{Waiting}
 use Rattle.pc_cycles.specs.declared.cycle.Cycle.{Cycle}
 use Rattle.pc_cycles.specs.declared.path.Path.{Path}
 use Rattle.pc_cycles.specs.declared.path.Path.TheVariants.{Start, After'}
@@ -80,17 +81,17 @@ finds_state met cycles state first = record {
 -- ---- the leaves of a state
 
 -- what was found after so many leaves of a state
-pub record HasFollowed (limits : Limits) (states : List AutomatonState) (tellings : List Telling) (path : Path) (state leaves : ℕ)
+pub record HasFollowed (limits : Limits) (states : List AutomatonState) (tellings : List Telling) (waits : List (List Waiting)) (path : Path) (state leaves : ℕ)
     (old_met met : List Bool) (old_cycles cycles : List Cycle) : Type 0 where
   pub finds : Finds old_met met old_cycles cycles
-  pub found : IsFound limits states tellings (λ other. nat_eq state other || is_on path other) met cycles
+  pub found : IsFound limits states tellings waits (λ other. nat_eq state other || is_on path other) met cycles
   pub followed : (leaf next : ℕ) → leaf < leaves → next_of states (record { state = state; leaf = leaf }) ≡ Some next
       → IsFollowed states met cycles (record { state = state; leaf = leaf }) next
 
-module _ {limits : Limits} {states : List AutomatonState} {tellings : List Telling} {path : Path} {state : ℕ} where
+module _ {limits : Limits} {states : List AutomatonState} {tellings : List Telling} {waits : List (List Waiting)} {path : Path} {state : ℕ} where
   -- before the first leaf
-  pub none_followed : {met : List Bool} {cycles : List Cycle} → slice_get met state ≡ Some false → IsFound limits states tellings (is_on path) met cycles
-      → HasFollowed limits states tellings path state 0 (slice_set met state true) (slice_set met state true) cycles cycles
+  pub none_followed : {met : List Bool} {cycles : List Cycle} → slice_get met state ≡ Some false → IsFound limits states tellings waits (is_on path) met cycles
+      → HasFollowed limits states tellings waits path state 0 (slice_set met state true) (slice_set met state true) cycles cycles
   none_followed {met} {cycles} first found = record {
     finds = finds_none (slice_set met state true) cycles;
     found = record {
@@ -105,9 +106,9 @@ module _ {limits : Limits} {states : List AutomatonState} {tellings : List Telli
   }
 
   -- a leaf that leads nowhere
-  pub passed_leaf : {leaves : ℕ} {old_met met : List Bool} {old_cycles cycles : List Cycle} → HasFollowed limits states tellings path state leaves old_met met old_cycles cycles
+  pub passed_leaf : {leaves : ℕ} {old_met met : List Bool} {old_cycles cycles : List Cycle} → HasFollowed limits states tellings waits path state leaves old_met met old_cycles cycles
       → ((next : ℕ) → next_of states (record { state = state; leaf = leaves }) ≡ Some next → ⊥)
-      → HasFollowed limits states tellings path state (leaves + 1) old_met met old_cycles cycles
+      → HasFollowed limits states tellings waits path state (leaves + 1) old_met met old_cycles cycles
   passed_leaf {leaves} {old_met} {met} {old_cycles} {cycles} h none = record {
     finds = h.finds;
     found = h.found;
@@ -124,11 +125,11 @@ module _ {limits : Limits} {states : List AutomatonState} {tellings : List Telli
 
   -- a leaf that was followed
   pub followed_leaf : {leaves to : ℕ} {old_met met new_met : List Bool} {old_cycles cycles new_cycles : List Cycle}
-      → HasFollowed limits states tellings path state leaves old_met met old_cycles cycles
+      → HasFollowed limits states tellings waits path state leaves old_met met old_cycles cycles
       → next_of states (record { state = state; leaf = leaves }) ≡ Some to
       → Finds met new_met cycles new_cycles → IsFollowed states new_met new_cycles (record { state = state; leaf = leaves }) to
-      → IsFound limits states tellings (λ other. nat_eq state other || is_on path other) new_met new_cycles
-      → HasFollowed limits states tellings path state (leaves + 1) old_met new_met old_cycles new_cycles
+      → IsFound limits states tellings waits (λ other. nat_eq state other || is_on path other) new_met new_cycles
+      → HasFollowed limits states tellings waits path state (leaves + 1) old_met new_met old_cycles new_cycles
   followed_leaf {leaves} {to} {old_met} {met} {new_met} {old_cycles} {cycles} {new_cycles} h leads_to finds followed found = record {
     finds = finds_both h.finds finds;
     found = found;
@@ -149,8 +150,8 @@ module _ {limits : Limits} {states : List AutomatonState} {tellings : List Telli
   -- after the last leaf the walk is done with the state
   pub all_followed : {leaves : ℕ} {met marked new_met : List Bool} {cycles new_cycles : List Cycle} (here : AutomatonState) → slice_get states state ≡ Some here
       → length (leaves_of here.row) ≤ leaves → slice_get met state ≡ Some false → marked ≡ slice_set met state true
-      → HasFollowed limits states tellings path state leaves marked new_met cycles new_cycles
-      → Visits limits states tellings path state met new_met cycles new_cycles
+      → HasFollowed limits states tellings waits path state leaves marked new_met cycles new_cycles
+      → Visits limits states tellings waits path state met new_met cycles new_cycles
   all_followed {leaves} {met} {marked} {new_met} {cycles} {new_cycles} here there all first marks h = record {
     finds = finds_both (finds_state met cycles state first) from_marked;
     is_met = h.finds.stay_met state (subst (λ (m : List Bool). IsMet m state) (sym marks) (set_there met state true (slice_get_within met state false first)));
@@ -249,10 +250,10 @@ last_closed states met cycles Start next at cycle told ends is_met = tt
 last_closed states met cycles (After' transition p before) next at cycle told ends is_met =
     is_closed (record { at = at; cycle = cycle; told = told; before = ends.0; last = ends.1 }) is_met
 
-module _ {limits : Limits} {states : List AutomatonState} {tellings : List Telling} {path : Path} {next : ℕ} where
+module _ {limits : Limits} {states : List AutomatonState} {tellings : List Telling} {waits : List (List Waiting)} {path : Path} {next : ℕ} where
   -- a state that was met is done, where it is not on the path
-  pub follows_met : {met : List Bool} {cycles : List Cycle} → IsFound limits states tellings (is_on path) met cycles → IsMet met next → is_on path next ≡ false
-      → Follows limits states tellings path next met met cycles cycles
+  pub follows_met : {met : List Bool} {cycles : List Cycle} → IsFound limits states tellings waits (is_on path) met cycles → IsMet met next → is_on path next ≡ false
+      → Follows limits states tellings waits path next met met cycles cycles
   follows_met {met} {cycles} found is_met off = record {
     finds = finds_none met cycles;
     followed = last_done path next (found.others_done next is_met off);
@@ -260,8 +261,8 @@ module _ {limits : Limits} {states : List AutomatonState} {tellings : List Telli
   }
 
   -- so is one that is visited
-  pub follows_visited : {met new_met : List Bool} {cycles new_cycles : List Cycle} → Visits limits states tellings path next met new_met cycles new_cycles
-      → is_on path next ≡ false → Follows limits states tellings path next met new_met cycles new_cycles
+  pub follows_visited : {met new_met : List Bool} {cycles new_cycles : List Cycle} → Visits limits states tellings waits path next met new_met cycles new_cycles
+      → is_on path next ≡ false → Follows limits states tellings waits path next met new_met cycles new_cycles
   follows_visited visits off = record {
     finds = visits.finds;
     followed = last_done path next (visits.found.others_done next visits.is_met off);
@@ -269,15 +270,17 @@ module _ {limits : Limits} {states : List AutomatonState} {tellings : List Telli
   }
 
   -- a state on the path closes a cycle
-  pub follows_back : {met : List Bool} {cycles new_cycles : List Cycle} (cycle : Cycle) → IsAt states path next met → IsFound limits states tellings (is_on path) met cycles
-      → is_on path next ≡ true → cycle.transitions ≡ since path next → IsCycle limits states tellings cycle → new_cycles ≡ cycles ++ cycle ∷ []
-      → Follows limits states tellings path next met met cycles new_cycles
+  pub follows_back : {met : List Bool} {cycles new_cycles : List Cycle} (cycle : Cycle) → IsAt states path next met → IsFound limits states tellings waits (is_on path) met cycles
+      → is_on path next ≡ true → cycle.transitions ≡ since path next
+      → IsCycle limits states tellings waits cycle → new_cycles ≡ cycles ++ cycle ∷ []
+      → Follows limits states tellings waits path next met met cycles new_cycles
   follows_back {met} {cycles} {new_cycles} cycle at found on same is more =
-      subst (λ (all : List Cycle). Follows limits states tellings path next met met cycles all) (sym more) (record {
+      subst (λ (all : List Cycle). Follows limits states tellings waits path next met met cycles all) (sym more) (record {
         finds = finds_cycle met cycles cycle;
-        followed = last_closed states met (cycles ++ cycle ∷ []) path next (length cycles) cycle (get_last cycles cycle) (subst (EndsLike path) (sym same) (since_ends path next)) (at.on_met next on);
+        followed = last_closed states met (cycles ++ cycle ∷ []) path next (length cycles) cycle (get_last cycles cycle)
+            (subst (EndsLike path) (sym same) (since_ends path next)) (at.on_met next on);
         found = record {
-          are_cycles = all_both (IsCycle limits states tellings) cycles (cycle ∷ []) found.are_cycles (is, tt);
+          are_cycles = all_both (IsCycle limits states tellings waits) cycles (cycle ∷ []) found.are_cycles (is, tt);
           others_done = λ other is_met off. still_done (finds_cycle met cycles cycle) (found.others_done other is_met off);
         };
       })

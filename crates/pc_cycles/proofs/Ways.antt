@@ -15,8 +15,8 @@ use Rattle.pc_automaton.specs.RowFits.{RowFits}
 use Rattle.pc_told.specs.Resources.{PathIn, to_leaf, past_item, to_yes, to_no, PathThrough, through_none, through_next}
 use Rattle.pc_told.specs.Tellings.{Telling, Tells_item, Tells_test, Tells_leaf}
 use Rattle.pc_cycles.specs.declared.transition.Transition.{Transition}
-use Rattle.pc_cycles.specs.Transitions.{leaf_to, items_to, tests_to, origins_to, successor_of, successor_from, next_of, items_from, tests_from, origins_from}
-use Rattle.pc_cycles.specs.Transitions.{Leads, by_none, by_first, items_along, tests_along, origins_along}
+use Rattle.pc_cycles.specs.Transitions.{leaf_to, items_to, tests_to, taken_to, origins_to, successor_of, successor_from, next_of, items_from, tests_from, taken_from, origins_from}
+use Rattle.pc_cycles.specs.Transitions.{Leads, by_none, by_first, items_along, tests_along, taken_along, origins_along}
 use Rattle.pc_cycles.specs.models.Circles.{HaveFewLeaves, AreThere}
 
 -- ---- one row
@@ -167,6 +167,33 @@ few_origins_along of_items states tellings (first ∷ others) =
     one (Some state) (Some telling) leaf = few_origins of_items state.row telling leaf
     one (Some state) None leaf = omega arith
     one None telling leaf = omega arith
+
+-- no more tests are taken than there are
+few_taken_to : {L : Type 0} (row : Row L) (leaf : ℕ) → length (taken_to row leaf) ≤ length (tests_to row leaf)
+few_taken_to (Then item rest) leaf = few_taken_to rest leaf
+few_taken_to (Either on on_yes on_no) leaf =
+    by (nat_lt leaf (length (leaves_of on_yes))) (few_taken_to on_yes leaf) (few_taken_to on_no (leaf - length (leaves_of on_yes)))
+  where
+    by : (b : Bool) → length (taken_to on_yes leaf) ≤ length (tests_to on_yes leaf)
+        → length (taken_to on_no (leaf - length (leaves_of on_yes))) ≤ length (tests_to on_no (leaf - length (leaves_of on_yes)))
+        → length (if b then on ∷ taken_to on_yes leaf else taken_to on_no (leaf - length (leaves_of on_yes)))
+        ≤ length (on ∷ (if b then tests_to on_yes leaf else tests_to on_no (leaf - length (leaves_of on_yes))))
+    by true one other = omega (arith, one)
+    by false one other = omega (arith, other)
+few_taken_to (At_leaf here) leaf = omega arith
+
+pub few_taken_along : (states : List AutomatonState) (way : List Transition) → length (taken_along states way) ≤ length (tests_along states way)
+few_taken_along states [] = omega arith
+few_taken_along states (first ∷ others) =
+    let rest = few_taken_along states others in
+    let here = one (slice_get states first.state) first.leaf in
+    let taken = length-append (taken_from (slice_get states first.state) first.leaf) (taken_along states others) in
+    let tests = length-append (tests_from (slice_get states first.state) first.leaf) (tests_along states others) in
+    omega (arith, rest, here, taken, tests)
+  where
+    one : (state : Option AutomatonState) (leaf : ℕ) → length (taken_from state leaf) ≤ length (tests_from state leaf)
+    one (Some state) leaf = few_taken_to state.row leaf
+    one None leaf = omega arith
 
 -- rows within limits have few leaves
 pub few_leaves : (limits : Limits) (states : List AutomatonState) → limits.tests < 2 ^ 31 → AllByRecursion (λ state. RowFits limits state.row) states → HaveFewLeaves states

@@ -11,9 +11,10 @@ use Rattle.pc_told.specs.Tellings.{Telling}
 use Rattle.pc_cycles.specs.declared.cycle.Cycle.{Cycle}
 use Rattle.pc_waiting.specs.declared.obstacle.Resource.{Resource}
 use Rattle.pc_waiting.specs.declared.obstacle.Resource.TheVariants.{Items, Tests, Memory}
+use Rattle.pc_waiting.specs.declared.obstacle.Waiting.{Waiting}
 use Rattle.pc_cycles.specs.declared.transition.Transition.{Transition}
 use Rattle.pc_cycles.specs.Chains.{IsChain}
-use Rattle.pc_cycles.specs.Transitions.{Leads, items_along, tests_along, origins_along}
+use Rattle.pc_cycles.specs.Transitions.{Leads, items_along, tests_along, taken_along, origins_along}
 
 -- ---- what is asked of a schedule
 
@@ -48,7 +49,7 @@ abbrev pub iteration_origins : List AutomatonState → List Telling → List Tra
 iteration_origins states tellings transitions = origins_along (nat_eq (length (tests_along states transitions)) 0) states tellings transitions
 
 -- a cycle of states, with what stands on the way once around
-pub record IsCycle (limits : Limits) (states : List AutomatonState) (tellings : List Telling) (cycle : Cycle) : Type 0 where
+pub record IsCycle (limits : Limits) (states : List AutomatonState) (tellings : List Telling) (waits : List (List Waiting)) (cycle : Cycle) : Type 0 where
   -- it leads from a state back to this, and no state stands twice on it
   pub start : ℕ
   pub closed : Leads states start cycle.transitions start
@@ -58,13 +59,14 @@ pub record IsCycle (limits : Limits) (states : List AutomatonState) (tellings : 
   pub iterations : IsGreatestCount (iteration_origins states tellings cycle.transitions) cycle.iterations
   pub items : cycle.items ≡ length (items_along states cycle.transitions)
   pub tests : cycle.tests ≡ length (tests_along states cycle.transitions)
+  pub taken : cycle.taken ≡ length (taken_along states cycle.transitions)
   pub memory : cycle.memory ≡ count_by is_memory (items_along states cycle.transitions)
   -- so many rows are needed at least, because of this resource, and it has no fewer
   pub least : IsLeastRoom limits cycle.items cycle.tests cycle.memory cycle.least_rows
   pub needed : NeedsRows limits cycle.items cycle.tests cycle.memory cycle.resource cycle.least_rows
   pub takes : cycle.least_rows ≤ length cycle.transitions
   -- the chain goes round it
-  pub chain : IfSome cycle.chain (IsChain states cycle.transitions)
+  pub chain : IfSome cycle.chain (IsChain states tellings waits cycle.transitions)
 
 -- ---- that none is passed over
 

@@ -2,6 +2,7 @@
 use Rattle.std.specs.Prelude.{◌≤◌, List, length}
 use Rattle.pc_word.specs.declared.item.Limits.{Limits}
 use Rattle.pc_automaton.specs.Automaton.{AutomatonState}
+use Rattle.pc_waiting.specs.declared.obstacle.Waiting.{Waiting}
 use Rattle.pc_told.specs.Tellings.{Telling}
 use Rattle.pc_cycles.specs.declared.cycle.Cycle.{Cycle}
 use Rattle.pc_cycles.specs.Bounds.{cycle_bound}
@@ -9,5 +10,5 @@ use Rattle.pc_cycles.specs.Cycles.{IsCycle}
 
 -- once round a cycle takes no fewer rows than its bound
 abbrev pub BoundsAreKept : Type 0
-BoundsAreKept = (limits : Limits) (states : List AutomatonState) (tellings : List Telling) (cycle : Cycle)
-    → IsCycle limits states tellings cycle → cycle_bound cycle ≤ length cycle.transitions
+BoundsAreKept = (limits : Limits) (states : List AutomatonState) (tellings : List Telling) (waits : List (List Waiting)) (cycle : Cycle)
+    → IsCycle limits states tellings waits cycle → cycle_bound cycle ≤ length cycle.transitions

@@ -6,7 +6,8 @@ use Rattle.pc_word.specs.Row.{Row, Then, Either, At_leaf, leaves_of}
 use Rattle.pc_automaton.specs.declared.automaton.AutomatonLeaf.{AutomatonLeaf}
 use Rattle.pc_automaton.specs.declared.automaton.AutomatonLeaf.TheVariants.{To, Out, Stop, Trap}
 use Rattle.pc_automaton.specs.Automaton.{AutomatonState}
-use Rattle.pc_told.specs.Tellings.{Telling, Tells_item, Tells_test}
+use Rattle.pc_told.specs.Tellings.{Telling, Tells_item, Tells_test, Tells_leaf}
+use Rattle.pc_cycles.specs.declared.told_item.ToldItem.{ToldItem}
 use Rattle.pc_cycles.specs.declared.transition.Transition.{Transition}
 
 -- ---- through one row
@@ -32,6 +33,13 @@ tests_to (Either on on_yes on_no) leaf =
     on ∷ (if nat_lt leaf (length (leaves_of on_yes)) then tests_to on_yes leaf else tests_to on_no (leaf - length (leaves_of on_yes)))
 tests_to (At_leaf here) leaf = []
 
+-- the operands of those that are taken: it goes on to their yes side
+abbrev pub taken_to : {L : Type 0} → Row L → (leaf : ℕ) → List Operand
+taken_to (Then item rest) leaf = taken_to rest leaf
+taken_to (Either on on_yes on_no) leaf =
+    if nat_lt leaf (length (leaves_of on_yes)) then on ∷ taken_to on_yes leaf else taken_to on_no (leaf - length (leaves_of on_yes))
+taken_to (At_leaf here) leaf = []
+
 -- the origins that are told of the tests on it, and of its items too, if they are asked for
 abbrev pub origins_to : {L : Type 0} → (of_items : Bool) → Row L → Telling → (leaf : ℕ) → List ℕ
 origins_to of_items (Then item rest) (Tells_item iteration origin told below) leaf =
@@ -49,6 +57,23 @@ item_origin_to (Either on on_yes on_no) (Tells_test iteration origin told one ot
     if nat_lt leaf (length (leaves_of on_yes)) then item_origin_to on_yes one leaf number
     else item_origin_to on_no other (leaf - length (leaves_of on_yes)) number
 item_origin_to _ _ leaf number = None
+
+-- the items on the path to it, with what is told of each
+abbrev pub told_items_to : {L : Type 0} → Row L → Telling → (leaf : ℕ) → List ToldItem
+told_items_to (Then item rest) (Tells_item iteration origin told below) leaf =
+    record { iteration = iteration; origin = origin; item = item } ∷ told_items_to rest below leaf
+told_items_to (Either on on_yes on_no) (Tells_test iteration origin told one other) leaf =
+    if nat_lt leaf (length (leaves_of on_yes)) then told_items_to on_yes one leaf
+    else told_items_to on_no other (leaf - length (leaves_of on_yes))
+told_items_to _ _ leaf = []
+
+-- by how many iterations what is left there begins later, where anything is
+abbrev pub advance_to : {L : Type 0} → Row L → Telling → (leaf : ℕ) → Option ℕ
+advance_to (Then item rest) (Tells_item iteration origin told below) leaf = advance_to rest below leaf
+advance_to (Either on on_yes on_no) (Tells_test iteration origin told one other) leaf =
+    if nat_lt leaf (length (leaves_of on_yes)) then advance_to on_yes one leaf else advance_to on_no other (leaf - length (leaves_of on_yes))
+advance_to (At_leaf here) (Tells_leaf advance) leaf = if nat_eq leaf 0 then advance else None
+advance_to _ _ leaf = None
 
 -- ---- by a transition
 
@@ -79,10 +104,25 @@ abbrev pub tests_from : Option AutomatonState → (leaf : ℕ) → List Operand
 tests_from None leaf = []
 tests_from (Some state) leaf = tests_to state.row leaf
 
+-- the operands of those that are taken
+abbrev pub taken_from : Option AutomatonState → (leaf : ℕ) → List Operand
+taken_from None leaf = []
+taken_from (Some state) leaf = taken_to state.row leaf
+
 -- the origins that are told of the tests, and of the items too, if they are asked for
 abbrev pub origins_from : (of_items : Bool) → Option AutomatonState → Option Telling → (leaf : ℕ) → List ℕ
 origins_from of_items (Some state) (Some telling) leaf = origins_to of_items state.row telling leaf
 origins_from of_items _ _ leaf = []
+
+-- the items on the path to a leaf of a state, with what is told of each
+abbrev pub told_items_from : Option AutomatonState → Option Telling → (leaf : ℕ) → List ToldItem
+told_items_from (Some state) (Some telling) leaf = told_items_to state.row telling leaf
+told_items_from _ _ leaf = []
+
+-- by how many iterations what is left there begins later, where anything is
+abbrev pub advance_from : Option AutomatonState → Option Telling → (leaf : ℕ) → Option ℕ
+advance_from (Some state) (Some telling) leaf = advance_to state.row telling leaf
+advance_from _ _ leaf = None
 
 -- ---- by several
 
@@ -101,6 +141,11 @@ items_along states (first ∷ others) = items_from (slice_get states first.state
 abbrev pub tests_along : List AutomatonState → List Transition → List Operand
 tests_along states [] = []
 tests_along states (first ∷ others) = tests_from (slice_get states first.state) first.leaf ++ tests_along states others
+
+-- the operands of those that are taken
+abbrev pub taken_along : List AutomatonState → List Transition → List Operand
+taken_along states [] = []
+taken_along states (first ∷ others) = taken_from (slice_get states first.state) first.leaf ++ taken_along states others
 
 -- the origins that are told of the tests, and of the items too, if they are asked for
 abbrev pub origins_along : (of_items : Bool) → List AutomatonState → List Telling → List Transition → List ℕ

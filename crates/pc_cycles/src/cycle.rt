@@ -9,7 +9,7 @@ ghost use Rattle.pc_cycles.specs.models.Circles.{IsCircle};
 ghost use Rattle.pc_cycles.specs.models.Walking.{IsGround};
 
 use crate::TransitionList;
-use crate::along::{items_along, origins_along, tests_along};
+use crate::along::{items_along, origins_along, taken_along, tests_along};
 use crate::chain::Chain;
 use crate::frequency::greatest_count;
 use crate::recurrence::recurrence;
@@ -34,6 +34,9 @@ pub struct Cycle {
     pub items: u32,
     /// How many tests.
     pub tests: u32,
+    /// How many of the tests are taken: the way goes on to their yes side. Where the loop's own leads round by its yes side and as many
+    /// are taken as iterations go by, no other test is.
+    pub taken: u32,
     /// How many loads and stores, which are items too.
     pub memory: u32,
     /// The least number of rows that has room for so many.
@@ -41,7 +44,8 @@ pub struct Cycle {
     /// Of what there is too much for fewer rows: the first of which that is so.
     pub resource: Resource,
     /// A chain of items round it, where one is found: of those that go up to four times round, one with the most items for each time
-    /// round, as far as the search sees. It looks at what items read and write, and not at memory, input and output.
+    /// round, as far as the search sees. It looks at the values that items read and write, and at items which wait because they may
+    /// not stand in one row with the one before; a longer chain may be passed over.
     pub chain: Option<Chain>,
 }
 
@@ -55,14 +59,16 @@ impl Cycle {
     ) -> Result<Cycle, OutOfMemory>
         requires ground { IsGround limits (states_in told.now.automaton) }
         requires circle { IsCircle (states_in told.now.automaton) transitions }
-        ensures is { IfOk result (λ cycle. IsCycle limits (states_in told.now.automaton) (tellings_in told.now.rows) cycle) }
+        ensures is { IfOk result (λ cycle. IsCycle limits (states_in told.now.automaton) (tellings_in told.now.rows) told.now.waiting cycle) }
         ensures same { IfOk result (λ cycle. cycle.transitions ≡ transitions) }
     {
         let items = items_along(alloc, told, transitions.as_slice())?;
         let tests = tests_along(alloc, told, transitions.as_slice())?;
+        let taken = taken_along(alloc, told, transitions.as_slice())?;
         let memory = memory_count(items.as_slice());
         let items = items.len() as u32;
         let tests = tests.len() as u32;
+        let taken = taken.len() as u32;
         let origins = origins_along(alloc, told, transitions.as_slice(), tests == 0)?;
         let least_rows = resource_bound(limits, items, tests, memory);
         let chain = recurrence(alloc, told, transitions.as_slice())?;
@@ -71,6 +77,7 @@ impl Cycle {
             iterations: greatest_count(origins.as_slice()),
             items,
             tests,
+            taken,
             memory,
             least_rows,
             resource: scarcest(limits, items, tests, memory, least_rows),

@@ -1,30 +1,32 @@
 //! The search for the chain round a cycle that takes the most rows for each time round.
 //!
-//! Nothing is owed for what it finds, since each chain is looked at before it is told. It goes round the cycle from each parameter of
-//! its first state, and keeps for each parameter of the state where it is the most items by which the value came there.
+//! Nothing is owed for what it finds, since each chain is looked at before it is told. It goes round the cycle from each carrier that
+//! may stand at the beginning of its first row, and keeps for each carrier to which it comes the most items by which it came there.
 ghost use Rattle.std.specs.Prelude.{◌<◌, ◌^◌, length, IfOk, IfSome};
-ghost use Rattle.pc_word.specs.Row.{leaves_of};
-ghost use Rattle.pc_word.specs.StoredRow.{row_in};
 ghost use Rattle.pc_automaton.specs.Automaton.{states_in};
+ghost use Rattle.pc_told.specs.Tellings.{tellings_in};
 ghost use Rattle.pc_cycles.specs.Chains.{IsChain};
 ghost use Rattle.pc_cycles.specs.models.Circles.{AreThere, HaveFewLeaves};
 
-use crate::LinkList;
-use crate::chain::{Chain, Link, is_chain};
-use crate::rows::{leaf_at, leaf_count};
+use crate::carrier::Carrier;
+use crate::chain::{Chain, Link, advance, is_chain};
+use crate::rows::{leaf_at, push_told_items};
+use crate::told_item::ToldItem;
 use crate::transition::Transition;
+use crate::{LinkList, ToldItemList};
 use pc_automaton::AutomatonLeaf;
 use pc_told::Told;
-use pc_word::{Item, Operand, Operands, OutOfMemory, RowTree};
+use pc_waiting::Waiting;
+use pc_word::OutOfMemory;
 use std::alloc::{AllocError, Global};
 
 /// How many times round a chain may go.
 const MOST_ROUNDS: u32 = 4;
 
-/// A name that holds what came from the beginning of a chain, by so many items and this link, if by any.
+/// What carries on from the beginning of a chain, by so many items and this link, if by any.
 #[derive(Clone, Copy)]
 struct Held {
-    name: u32,
+    carrier: Carrier,
     items: u32,
     last: Option<usize>,
 }
@@ -36,21 +38,15 @@ struct Node {
     before: Option<usize>,
 }
 
-/// What an argument comes from: a name that holds it, or one that an item with this number reads.
+/// A carrier at the end of a row: one from its beginning, or what the item with this number brings that takes one up.
 #[derive(Clone, Copy)]
-struct Source {
+struct Brought {
+    carrier: Carrier,
     item: Option<u32>,
     from: Held,
 }
 
-/// An item, and its number among those on its path.
-#[derive(Clone, Copy)]
-struct Writer {
-    number: u32,
-    item: Item,
-}
-
-/// What came back to the parameter where it began.
+/// What came back to where it began.
 #[derive(Clone, Copy)]
 struct Closed {
     rounds: u32,
@@ -66,7 +62,7 @@ pub(crate) fn recurrence(
     requires there { AreThere (states_in told.now.automaton) transitions.now }
     requires few { HaveFewLeaves (states_in told.now.automaton) }
     requires count { length told.now.automaton < 2 ^ 32 }
-    ensures { IfOk result (λ chain. IfSome chain (IsChain (states_in told.now.automaton) transitions.now)) }
+    ensures { IfOk result (λ chain. IfSome chain (IsChain (states_in told.now.automaton) (tellings_in told.now.rows) told.now.waiting transitions.now)) }
 {
     let Some(chain) = search(alloc, told, transitions)? else {
         return Ok(None);
@@ -77,7 +73,7 @@ pub(crate) fn recurrence(
     Ok(Some(chain))
 }
 
-/// Goes round the cycle from each parameter of its first state.
+/// Goes round the cycle from each carrier that may stand at the beginning of its first row.
 fn search(
     alloc: Global,
     told: &Told,
@@ -87,14 +83,10 @@ fn search(
     requires few { HaveFewLeaves (states_in told.now.automaton) }
     requires count { length told.now.automaton < 2 ^ 32 }
 {
-    let Some(first) = transitions.first() else {
-        return Ok(None);
-    };
     let mut nodes = Vec::new(alloc);
     let mut best = None;
-    let state = told.automaton.state(first.state);
-    for parameter in state.parameters.as_slice() {
-        best = go_round(alloc, told, transitions, *parameter, best, &mut nodes)?;
+    for start in starts(alloc, told, transitions)? {
+        best = go_round(alloc, told, transitions, start, best, &mut nodes)?;
     }
     match best {
         None => Ok(None),
@@ -102,12 +94,79 @@ fn search(
     }
 }
 
-/// The better of what was found before and what comes back to a parameter.
+/// The carriers that may stand at the beginning of the first row: the values of its state's parameters, and the items that wait behind the
+/// last row and touch memory, input or output.
+fn starts(
+    alloc: Global,
+    told: &Told,
+    transitions: &[Transition],
+) -> Result<Vec<Carrier>, OutOfMemory>
+    requires there { AreThere (states_in told.now.automaton) transitions.now }
+    requires few { HaveFewLeaves (states_in told.now.automaton) }
+    requires count { length told.now.automaton < 2 ^ 32 }
+{
+    let mut starts = Vec::new(alloc);
+    let (Some(first), Some(last)) = (transitions.first(), transitions.last()) else {
+        return Ok(starts);
+    };
+    let state = told.automaton.state(first.state);
+    for parameter in state.parameters.as_slice() {
+        starts.push(Carrier::Value { name: *parameter })?;
+    }
+    push_waiting(told, *last, &mut starts)?;
+    Ok(starts)
+}
+
+/// Appends the items that wait behind the row of a transition and touch memory, input or output, as it passes them on.
+fn push_waiting(
+    told: &Told,
+    transition: Transition,
+    starts: &mut Vec<Carrier>,
+) -> Result<(), AllocError>
+    requires there { transition.state < length (states_in told.now.automaton) }
+    requires few { HaveFewLeaves (states_in told.now.automaton) }
+{
+    let Some(entries) = told.waiting.get(transition.state as usize) else {
+        return Ok(());
+    };
+    let advance = advance(told, transition);
+    for entry in entries.as_slice() {
+        let waiting = Carrier::Waiting {
+            iteration: entry.iteration,
+            origin: entry.origin,
+        };
+        if let (true, Some(start)) = (is_kept_apart(*entry), passed_on(waiting, advance)) {
+            starts.push(start)?;
+        }
+    }
+    Ok(())
+}
+
+/// Whether it is an item that touches memory, input or output.
+fn is_kept_apart(entry: Waiting) -> bool {
+    match entry.what {
+        Some(item) => item.is_memory() || item.is_effect(),
+        None => false,
+    }
+}
+
+/// The same item that waits, where the leaf goes on by so many iterations and it is not of an earlier one.
+fn passed_on(carrier: Carrier, advance: Option<u32>) -> Option<Carrier> {
+    match carrier {
+        Carrier::Waiting { iteration, origin } => {
+            let iteration = iteration.checked_sub(advance?)?;
+            Some(Carrier::Waiting { iteration, origin })
+        }
+        Carrier::Value { .. } => None,
+    }
+}
+
+/// The better of what was found before and what comes back to where it starts.
 fn go_round(
     alloc: Global,
     told: &Told,
     transitions: &[Transition],
-    parameter: u32,
+    start: Carrier,
     best: Option<Closed>,
     nodes: &mut Vec<Node>,
 ) -> Result<Option<Closed>, OutOfMemory>
@@ -118,7 +177,7 @@ fn go_round(
     let mut best = best;
     let mut held = Vec::new(alloc);
     held.push(Held {
-        name: parameter,
+        carrier: start,
         items: 0,
         last: None,
     })?;
@@ -126,7 +185,7 @@ fn go_round(
         for transition in transitions {
             held = carry_on(alloc, told, *transition, &held, nodes)?;
         }
-        if let Some(back) = holder(&held, parameter) {
+        if let Some(back) = holder(&held, start) {
             best = better(
                 best,
                 Closed {
@@ -152,7 +211,7 @@ fn better(best: Option<Closed>, other: Closed) -> Option<Closed> {
     if now > before { Some(other) } else { best }
 }
 
-/// What holds the value after a transition, with a link for each.
+/// What is held after a transition, with a link for each.
 fn carry_on(
     alloc: Global,
     told: &Told,
@@ -165,6 +224,138 @@ fn carry_on(
     requires count { length told.now.automaton < 2 ^ 32 }
 {
     let mut after = Vec::new(alloc);
+    if held.is_empty() {
+        return Ok(after);
+    }
+    let brought = brought_by(alloc, told, transition, held)?;
+    let advance = advance(told, transition);
+    for it in brought {
+        match it.carrier {
+            Carrier::Value { name } => pass_value(told, transition, name, it, &mut after, nodes)?,
+            Carrier::Waiting { .. } => {
+                if let Some(to) = passed_on(it.carrier, advance) {
+                    keep(it, to, &mut after, nodes)?;
+                }
+            }
+        }
+    }
+    Ok(after)
+}
+
+/// What stands at the end of a row: all that is held, and what each item brings that takes some of it up.
+fn brought_by(
+    alloc: Global,
+    told: &Told,
+    transition: Transition,
+    held: &[Held],
+) -> Result<Vec<Brought>, OutOfMemory>
+    requires there { transition.state < length (states_in told.now.automaton) }
+    requires few { HaveFewLeaves (states_in told.now.automaton) }
+{
+    let mut brought = Vec::new(alloc);
+    for it in held {
+        brought.push(Brought {
+            carrier: it.carrier,
+            item: None,
+            from: *it,
+        })?;
+    }
+    let items = path_items(alloc, told, transition)?;
+    let mut number: u32 = 0;
+    for item in items.as_slice() {
+        if let Some(from) = taken_up(*item, held) {
+            push_brought(told, transition.state, *item, number, from, &mut brought)?;
+        }
+        number = number.saturating_add(1);
+    }
+    Ok(brought)
+}
+
+/// The items on the path of a transition, with what is told of each.
+fn path_items(
+    alloc: Global,
+    told: &Told,
+    transition: Transition,
+) -> Result<ToldItemList, AllocError>
+    requires there { transition.state < length (states_in told.now.automaton) }
+    requires few { HaveFewLeaves (states_in told.now.automaton) }
+{
+    let mut items = ToldItemList::new(alloc);
+    let state = told.automaton.state(transition.state);
+    if let Some(row) = told.rows.get(transition.state as usize) {
+        push_told_items(&state.row, row, transition.leaf, &mut items)?;
+    }
+    Ok(items)
+}
+
+/// Of what an item takes up, that which came there by the most items.
+fn taken_up(item: ToldItem, held: &[Held]) -> Option<Held> {
+    let mut most = None;
+    for it in held {
+        if item.takes_up(it.carrier) {
+            most = more(most, *it);
+        }
+    }
+    most
+}
+
+/// The one that came by more items.
+fn more(one: Option<Held>, other: Held) -> Option<Held> {
+    match one {
+        Some(first) if first.items >= other.items => one,
+        _ => Some(other),
+    }
+}
+
+/// Appends what an item brings: its name's value, and the items that wait for it.
+fn push_brought(
+    told: &Told,
+    state: u32,
+    item: ToldItem,
+    number: u32,
+    from: Held,
+    brought: &mut Vec<Brought>,
+) -> Result<(), AllocError> {
+    let number = Some(number);
+    if let Some(name) = item.item.dest() {
+        brought.push(Brought {
+            carrier: Carrier::Value { name },
+            item: number,
+            from,
+        })?;
+    }
+    let Some(entries) = told.waiting.get(state as usize) else {
+        return Ok(());
+    };
+    for entry in entries.as_slice() {
+        let carrier = Carrier::Waiting {
+            iteration: entry.iteration,
+            origin: entry.origin,
+        };
+        if item.is_met(entry.obstacle) && item.brings(Some(entries), carrier) {
+            brought.push(Brought {
+                carrier,
+                item: number,
+                from,
+            })?;
+        }
+    }
+    Ok(())
+}
+
+/// Passes a name's value on for each parameter for which it is an argument.
+fn pass_value(
+    told: &Told,
+    transition: Transition,
+    name: u32,
+    it: Brought,
+    after: &mut Vec<Held>,
+    nodes: &mut Vec<Node>,
+) -> Result<(), AllocError>
+    requires there { transition.state < length (states_in told.now.automaton) }
+    requires few { HaveFewLeaves (states_in told.now.automaton) }
+    requires count { length told.now.automaton < 2 ^ 32 }
+{
     let state = told.automaton.state(transition.state);
     let Some(
         AutomatonLeaf::To {
@@ -173,128 +364,54 @@ fn carry_on(
         },
     ) = leaf_at(&state.row, transition.leaf)
     else {
-        return Ok(after);
+        return Ok(());
     };
     if *next >= told.automaton.count() {
-        return Ok(after);
+        return Ok(());
     }
     let parameters = told.automaton.state(*next).parameters.as_slice();
     for (at, argument) in arguments.as_slice().iter().enumerate() {
-        if let (Some(parameter), Some(source)) = (
-            parameters.get(at),
-            source_of(&state.row, transition.leaf, *argument, held),
-        ) {
-            carry(source, *parameter, &mut after, nodes)?;
+        if let (true, Some(parameter)) = (argument.is_name(name), parameters.get(at)) {
+            keep(it, Carrier::Value { name: *parameter }, after, nodes)?;
         }
     }
-    Ok(after)
+    Ok(())
 }
 
-/// Carries a value to a parameter.
-fn carry(
-    source: Source,
-    parameter: u32,
+/// Keeps what is passed on, with its link, where nothing that is kept came there by as many items.
+fn keep(
+    it: Brought,
+    to: Carrier,
     after: &mut Vec<Held>,
     nodes: &mut Vec<Node>,
 ) -> Result<(), AllocError> {
+    let items = match it.item {
+        Some(_) => it.from.items.saturating_add(1),
+        None => it.from.items,
+    };
+    if let Some(other) = holder(after, to) {
+        if other.items >= items {
+            return Ok(());
+        }
+    }
     let number = nodes.len();
     nodes.push(Node {
-        link: Link {
-            item: source.item,
-            parameter,
-        },
-        before: source.from.last,
+        link: Link { item: it.item, to },
+        before: it.from.last,
     })?;
-    let items = match source.item {
-        Some(_) => source.from.items.saturating_add(1),
-        None => source.from.items,
-    };
+    after.retain(|other| !other.carrier.is_same(to));
     after.push(Held {
-        name: parameter,
+        carrier: to,
         items,
         last: Some(number),
     })?;
     Ok(())
 }
 
-/// What an argument comes from, if what holds it or what it is made of came from the beginning.
-fn source_of(
-    row: &RowTree<AutomatonLeaf>,
-    leaf: u32,
-    argument: Operand,
-    held: &[Held],
-) -> Option<Source>
-    requires { length (leaves_of (row_in (λ leaf. leaf) row.now)) < 2 ^ 32 }
-{
-    let Operand::Name(name) = argument else {
-        return None;
-    };
-    if let Some(from) = holder(held, name) {
-        return Some(Source { item: None, from });
-    }
-    let writer = writer_of(row, leaf, name, 0)?;
-    let from = most_read(writer.item, held)?;
-    Some(Source {
-        item: Some(writer.number),
-        from,
-    })
-}
-
-/// The item on the path to a leaf that writes a name, where the first item has this number.
-fn writer_of(row: &RowTree<AutomatonLeaf>, leaf: u32, name: u32, number: u32) -> Option<Writer>
-    requires { length (leaves_of (row_in (λ leaf. leaf) row.now)) < 2 ^ 32 }
-{
-    match row {
-        RowTree::Step { item, next } => {
-            if item.writes(name) {
-                return Some(Writer {
-                    number,
-                    item: *item,
-                });
-            }
-            writer_of(next, leaf, name, number.saturating_add(1))
-        }
-        RowTree::Test { yes, no, .. } => {
-            let on_yes = leaf_count(yes);
-            if leaf < on_yes {
-                return writer_of(yes, leaf, name, number);
-            }
-            writer_of(no, leaf - on_yes, name, number)
-        }
-        RowTree::Leaf { .. } => None,
-    }
-}
-
-/// Of the names that an item reads, the one that holds the value by the most items.
-fn most_read(item: Item, held: &[Held]) -> Option<Held> {
-    match item.operands() {
-        Operands::None => None,
-        Operands::One(one) => held_by(held, one),
-        Operands::Two(one, other) => more(held_by(held, one), held_by(held, other)),
-    }
-}
-
-/// The one that came by more items.
-fn more(one: Option<Held>, other: Option<Held>) -> Option<Held> {
-    match (one, other) {
-        (Some(first), Some(second)) if first.items < second.items => Some(second),
-        (Some(first), _) => Some(first),
-        (None, second) => second,
-    }
-}
-
-/// What holds the value, if this operand does.
-fn held_by(held: &[Held], operand: Operand) -> Option<Held> {
-    match operand {
-        Operand::Name(name) => holder(held, name),
-        Operand::Lit(_) => None,
-    }
-}
-
-/// What holds the value, if this name does.
-fn holder(held: &[Held], name: u32) -> Option<Held> {
+/// What is held of a carrier, if it is.
+fn holder(held: &[Held], carrier: Carrier) -> Option<Held> {
     for it in held {
-        if it.name == name {
+        if it.carrier.is_same(carrier) {
             return Some(*it);
         }
     }
@@ -314,7 +431,7 @@ fn chain_of(alloc: Global, closed: Closed, nodes: &[Node]) -> Result<Chain, Allo
     links.reverse();
     Ok(Chain {
         rounds: closed.rounds,
-        parameter: closed.held.name,
+        start: closed.held.carrier,
         links: LinkList::from_vec(links),
         items: closed.held.items,
     })

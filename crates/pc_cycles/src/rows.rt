@@ -4,8 +4,10 @@ ghost use Rattle.std.specs.Option.{option_copied};
 ghost use Rattle.pc_word.specs.Row.{leaves_of};
 ghost use Rattle.pc_word.specs.StoredRow.{row_in};
 ghost use Rattle.pc_told.specs.Tellings.{telling_in};
-ghost use Rattle.pc_cycles.specs.Transitions.{leaf_to, successor_of, items_to, tests_to, origins_to, item_origin_to};
+ghost use Rattle.pc_cycles.specs.Transitions.{leaf_to, successor_of, items_to, tests_to, taken_to, origins_to, item_origin_to, told_items_to, advance_to};
 
+use crate::ToldItemList;
+use crate::told_item::ToldItem;
 use pc_automaton::{AutomatonLeaf, OperandList};
 use pc_told::ToldRow;
 use pc_word::{Item, RowTree, Seq};
@@ -46,26 +48,127 @@ pub(crate) fn leaf_at(row: &RowTree<AutomatonLeaf>, leaf: u32) -> Option<&Automa
     }
 }
 
-/// The item with this number among those on the path to a leaf, counted from 0, if there are so many.
-pub(crate) fn item_at(row: &RowTree<AutomatonLeaf>, leaf: u32, number: u32) -> Option<Item>
+/// The item with this number among those on the path to a leaf, counted from 0, with what is told of it, if there are so many.
+pub(crate) fn told_item_at(
+    row: &RowTree<AutomatonLeaf>,
+    told: &ToldRow,
+    leaf: u32,
+    number: u32,
+) -> Option<ToldItem>
     requires { length (leaves_of (row_in (λ leaf. leaf) row.now)) < 2 ^ 32 }
-    ensures { result ≡ slice_get (items_to (row_in (λ leaf. leaf) row.now) leaf) number }
+    ensures { result ≡ slice_get (told_items_to (row_in (λ leaf. leaf) row.now) (telling_in told.now) leaf) number }
 {
-    match row {
-        RowTree::Step { item, next } => {
+    match (row, told) {
+        (
+            RowTree::Step { item, next },
+            ToldRow::Step {
+                iteration,
+                origin,
+                next: below,
+                ..
+            },
+        ) => {
             if number == 0 {
-                return Some(*item);
+                return Some(ToldItem {
+                    iteration: *iteration,
+                    origin: *origin,
+                    item: *item,
+                });
             }
-            item_at(next, leaf, number - 1)
+            told_item_at(next, below, leaf, number - 1)
         }
-        RowTree::Test { yes, no, .. } => {
+        (
+            RowTree::Test { yes, no, .. },
+            ToldRow::Test {
+                yes: one,
+                no: other,
+                ..
+            },
+        ) => {
             let on_yes = leaf_count(yes);
             if leaf < on_yes {
-                return item_at(yes, leaf, number);
+                return told_item_at(yes, one, leaf, number);
             }
-            item_at(no, leaf - on_yes, number)
+            told_item_at(no, other, leaf - on_yes, number)
         }
-        RowTree::Leaf { .. } => None,
+        _ => None,
+    }
+}
+
+/// Appends the items on the path to a leaf, with what is told of each.
+pub(crate) fn push_told_items(
+    row: &RowTree<AutomatonLeaf>,
+    told: &ToldRow,
+    leaf: u32,
+    items: &mut ToldItemList,
+) -> Result<(), AllocError>
+    requires { length (leaves_of (row_in (λ leaf. leaf) row.now)) < 2 ^ 32 }
+{
+    match (row, told) {
+        (
+            RowTree::Step { item, next },
+            ToldRow::Step {
+                iteration,
+                origin,
+                next: below,
+                ..
+            },
+        ) => {
+            items.push(ToldItem {
+                iteration: *iteration,
+                origin: *origin,
+                item: *item,
+            })?;
+            push_told_items(next, below, leaf, items)
+        }
+        (
+            RowTree::Test { yes, no, .. },
+            ToldRow::Test {
+                yes: one,
+                no: other,
+                ..
+            },
+        ) => {
+            let on_yes = leaf_count(yes);
+            if leaf < on_yes {
+                return push_told_items(yes, one, leaf, items);
+            }
+            push_told_items(no, other, leaf - on_yes, items)
+        }
+        _ => Ok(()),
+    }
+}
+
+/// By how many iterations what is left at a leaf begins later, where anything is.
+pub(crate) fn advance_at(row: &RowTree<AutomatonLeaf>, told: &ToldRow, leaf: u32) -> Option<u32>
+    requires { length (leaves_of (row_in (λ leaf. leaf) row.now)) < 2 ^ 32 }
+    ensures { result ≡ advance_to (row_in (λ leaf. leaf) row.now) (telling_in told.now) leaf }
+{
+    match (row, told) {
+        (RowTree::Step { next, .. }, ToldRow::Step { next: below, .. }) => {
+            advance_at(next, below, leaf)
+        }
+        (
+            RowTree::Test { yes, no, .. },
+            ToldRow::Test {
+                yes: one,
+                no: other,
+                ..
+            },
+        ) => {
+            let on_yes = leaf_count(yes);
+            if leaf < on_yes {
+                return advance_at(yes, one, leaf);
+            }
+            advance_at(no, other, leaf - on_yes)
+        }
+        (RowTree::Leaf { .. }, ToldRow::Leaf { advance }) => {
+            if leaf != 0 {
+                return None;
+            }
+            *advance
+        }
+        _ => None,
     }
 }
 
@@ -135,6 +238,29 @@ pub(crate) fn push_tests(
                 return push_tests(yes, leaf, tests);
             }
             push_tests(no, leaf - on_yes, tests)
+        }
+        RowTree::Leaf { .. } => Ok(()),
+    }
+}
+
+/// Appends the operands of those that are taken: it goes on to their yes side.
+pub(crate) fn push_taken(
+    row: &RowTree<AutomatonLeaf>,
+    leaf: u32,
+    taken: &mut OperandList,
+) -> Result<(), AllocError>
+    requires { length (leaves_of (row_in (λ leaf. leaf) row.now)) < 2 ^ 32 }
+    ensures { OnOk result (taken.new ≡ taken.old ++ taken_to (row_in (λ leaf. leaf) row.now) leaf) }
+{
+    match row {
+        RowTree::Step { next, .. } => push_taken(next, leaf, taken),
+        RowTree::Test { on, yes, no } => {
+            let on_yes = leaf_count(yes);
+            if leaf < on_yes {
+                taken.push(*on)?;
+                return push_taken(yes, leaf, taken);
+            }
+            push_taken(no, leaf - on_yes, taken)
         }
         RowTree::Leaf { .. } => Ok(()),
     }

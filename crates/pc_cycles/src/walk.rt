@@ -23,12 +23,12 @@ use std::alloc::Global;
 /// is told.
 ///
 /// The walk takes time in proportion to what stands in all rows times their leaves. For each cycle there is added the square of what
-/// stands on it, and its parameters times what stands on it times what holds a value there, for the chain. It fails where memory runs
-/// out.
+/// stands on it, and, for the chain, as often as its first state has parameters and items wait behind its last row, what stands on it
+/// and waits there times what may carry a chain on there. It fails where memory runs out.
 pub fn cycles(alloc: Global, limits: Limits, told: &Told) -> Result<CycleList, OutOfMemory>
     requires limits { AreLimits limits }
     requires scheduled { AreScheduled limits (states_in told.now.automaton) }
-    ensures are_cycles { IfOk result (λ cycles. AllByRecursion (IsCycle limits (states_in told.now.automaton) (tellings_in told.now.rows)) cycles) }
+    ensures are_cycles { IfOk result (λ cycles. AllByRecursion (IsCycle limits (states_in told.now.automaton) (tellings_in told.now.rows) told.now.waiting) cycles) }
     ensures none_is_passed_over { IfOk result (λ cycles. NoneIsPassedOver (states_in told.now.automaton) cycles) }
 {
     let mut met = vec![in alloc; false; told.automaton.count() as usize]?;
@@ -51,8 +51,8 @@ fn visit(
     requires ground { IsGround limits (states_in told.now.automaton) }
     requires at { IsAt (states_in told.now.automaton) path.now state met.old }
     requires first_met { slice_get met.old state ≡ Some false }
-    requires found { IsFound limits (states_in told.now.automaton) (tellings_in told.now.rows) (is_on path.now) met.old cycles.old }
-    ensures { OnOk result (Visits limits (states_in told.now.automaton) (tellings_in told.now.rows) path.now state met.old met.new cycles.old cycles.new) }
+    requires found { IsFound limits (states_in told.now.automaton) (tellings_in told.now.rows) told.now.waiting (is_on path.now) met.old cycles.old }
+    ensures { OnOk result (Visits limits (states_in told.now.automaton) (tellings_in told.now.rows) told.now.waiting path.now state met.old met.new cycles.old cycles.new) }
 {
     met[state as usize] = true;
     let row = &told.automaton.state(state).row;
@@ -82,8 +82,8 @@ fn follow(
 ) -> Result<(), OutOfMemory>
     requires ground { IsGround limits (states_in told.now.automaton) }
     requires at { IsAt (states_in told.now.automaton) path.now next met.old }
-    requires found { IsFound limits (states_in told.now.automaton) (tellings_in told.now.rows) (is_on path.now) met.old cycles.old }
-    ensures { OnOk result (Follows limits (states_in told.now.automaton) (tellings_in told.now.rows) path.now next met.old met.new cycles.old cycles.new) }
+    requires found { IsFound limits (states_in told.now.automaton) (tellings_in told.now.rows) told.now.waiting (is_on path.now) met.old cycles.old }
+    ensures { OnOk result (Follows limits (states_in told.now.automaton) (tellings_in told.now.rows) told.now.waiting path.now next met.old met.new cycles.old cycles.new) }
 {
     if is_on(path, next) {
         return close(alloc, limits, told, path, next, met, cycles);
@@ -106,9 +106,9 @@ fn close(
 ) -> Result<(), OutOfMemory>
     requires ground { IsGround limits (states_in told.now.automaton) }
     requires at { IsAt (states_in told.now.automaton) path.now next met.now }
-    requires found { IsFound limits (states_in told.now.automaton) (tellings_in told.now.rows) (is_on path.now) met.now cycles.old }
+    requires found { IsFound limits (states_in told.now.automaton) (tellings_in told.now.rows) told.now.waiting (is_on path.now) met.now cycles.old }
     requires back { is_on path.now next ≡ true }
-    ensures { OnOk result (Follows limits (states_in told.now.automaton) (tellings_in told.now.rows) path.now next met.now met.now cycles.old cycles.new) }
+    ensures { OnOk result (Follows limits (states_in told.now.automaton) (tellings_in told.now.rows) told.now.waiting path.now next met.now met.now cycles.old cycles.new) }
 {
     let mut transitions = TransitionList::new(alloc);
     push_since(path, next, &mut transitions)?;

@@ -5,6 +5,7 @@ use Rattle.pc_word.specs.declared.item.Limits.{Limits}
 use Rattle.pc_word.specs.Ranges.{AreLimits}
 use Rattle.pc_automaton.specs.Automaton.{AutomatonState, IsAutomaton}
 use Rattle.pc_told.specs.Tellings.{Telling}
+use Rattle.pc_waiting.specs.declared.obstacle.Waiting.{Waiting}
 use Rattle.pc_cycles.specs.declared.cycle.Cycle.{Cycle}
 use Rattle.pc_cycles.specs.declared.path.Path.{Path}
 use Rattle.pc_cycles.specs.declared.path.Path.TheVariants.{Start, After'}
@@ -52,8 +53,9 @@ pub record IsAt (states : List AutomatonState) (path : Path) (state : ℕ) (met 
   pub room : path_length path + count_by not met ≤ length states
 
 -- what was found so far: the cycles are cycles, and the walk is done with what is not open
-pub record IsFound (limits : Limits) (states : List AutomatonState) (tellings : List Telling) (is_open : ℕ → Bool) (met : List Bool) (cycles : List Cycle) : Type 0 where
-  pub are_cycles : AllByRecursion (IsCycle limits states tellings) cycles
+pub record IsFound (limits : Limits) (states : List AutomatonState) (tellings : List Telling) (waits : List (List Waiting)) (is_open : ℕ → Bool)
+    (met : List Bool) (cycles : List Cycle) : Type 0 where
+  pub are_cycles : AllByRecursion (IsCycle limits states tellings waits) cycles
   pub others_done : OthersAreDone states is_open met cycles
 
 -- ---- going on
@@ -66,11 +68,11 @@ pub record Finds (old_met new_met : List Bool) (old_cycles new_cycles : List Cyc
   pub stay_told : (at : ℕ) (cycle : Cycle) → slice_get old_cycles at ≡ Some cycle → slice_get new_cycles at ≡ Some cycle
 
 -- from a place the walk has met its state, and is done with what it met but for the path there
-pub record Visits (limits : Limits) (states : List AutomatonState) (tellings : List Telling) (path : Path) (state : ℕ) (old_met new_met : List Bool)
+pub record Visits (limits : Limits) (states : List AutomatonState) (tellings : List Telling) (waits : List (List Waiting)) (path : Path) (state : ℕ) (old_met new_met : List Bool)
     (old_cycles new_cycles : List Cycle) : Type 0 where
   pub finds : Finds old_met new_met old_cycles new_cycles
   pub is_met : IsMet new_met state
-  pub found : IsFound limits states tellings (is_on path) new_met new_cycles
+  pub found : IsFound limits states tellings waits (is_on path) new_met new_cycles
 
 -- the last transition of a path was followed
 abbrev pub LastIsFollowed : List AutomatonState → (met : List Bool) → List Cycle → Path → (next : ℕ) → Type 0
@@ -78,8 +80,8 @@ LastIsFollowed states met cycles Start next = Unit {0}
 LastIsFollowed states met cycles (After' transition p before) next = IsFollowed states met cycles transition next
 
 -- the walk followed the last transition of a path to a state
-pub record Follows (limits : Limits) (states : List AutomatonState) (tellings : List Telling) (path : Path) (next : ℕ) (old_met new_met : List Bool)
+pub record Follows (limits : Limits) (states : List AutomatonState) (tellings : List Telling) (waits : List (List Waiting)) (path : Path) (next : ℕ) (old_met new_met : List Bool)
     (old_cycles new_cycles : List Cycle) : Type 0 where
   pub finds : Finds old_met new_met old_cycles new_cycles
   pub followed : LastIsFollowed states new_met new_cycles path next
-  pub found : IsFound limits states tellings (is_on path) new_met new_cycles
+  pub found : IsFound limits states tellings waits (is_on path) new_met new_cycles
