@@ -71,7 +71,7 @@ module _ (flow : FlowGraph) (table : Table) (limits : Limits) (limited : AreLimi
         as_many_wait = is.told.as_many_wait;
         as_many_hold = held_each region search schedule is;
         few_leaves = few_leaves limits schedule.states (omega (arith, tests)) is.found.fits;
-        circles = all_imply (IsCycle limits schedule.states schedule.tellings) (λ (cycle : Cycle). 1 ≤ length cycle.transitions) schedule.cycles
+        circles = all_imply (IsCycle limits schedule.states schedule.tellings schedule.waits) (λ (cycle : Cycle). 1 ≤ length cycle.transitions) schedule.cycles
             (λ cycle it. it.some) is.cycles;
       }
 

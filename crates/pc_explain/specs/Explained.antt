@@ -80,7 +80,7 @@ pub record IsScheduleOf (flow : FlowGraph) (table : Table) (limits : Limits) (ex
   pub found : IsFound (rules_for table limits extent.window) region extent.rows schedule.states
   pub told : AreTold (rules_for table limits extent.window) region extent.rows schedule.states schedule.tellings schedule.waits
   pub held : schedule.holdings ≡ variables_of flow schedule.states schedule.tellings
-  pub cycles : AllByRecursion (IsCycle limits schedule.states schedule.tellings) schedule.cycles
+  pub cycles : AllByRecursion (IsCycle limits schedule.states schedule.tellings schedule.waits) schedule.cycles
   pub all_cycles : NoneIsPassedOver schedule.states schedule.cycles
 
 -- there is a schedule where there is a search, and it is this search's

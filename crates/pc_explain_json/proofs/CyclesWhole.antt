@@ -50,7 +50,7 @@ module _ (lines : List ℕ) (schedule : LoopSchedule) where
   cycle-whole cycle =
       object-whole (way_fields cycle.transitions ++ (count_fields cycle ++ bound_fields lines schedule cycle)) (
         numbers-whole cycle.transitions,
-        (refl, (refl, (refl, (refl, (refl, (refl, (refl, (chain-whole lines schedule cycle.transitions cycle.chain, (refl, (refl, tt)))))))))),
+        (refl, (refl, (refl, (refl, (refl, (refl, (refl, (refl, (chain-whole lines schedule cycle.transitions cycle.chain, (refl, (refl, tt))))))))))),
       )
 
   pub cycles-whole : (cycles : List Cycle) → AllByRecursion (λ value. has_float value ≡ false) (map (cycle_json lines schedule) cycles)

@@ -50,6 +50,7 @@ count_fields cycle =
     count_field (codes "iterations") cycle.iterations
     ∷ count_field (codes "items") cycle.items
     ∷ count_field (codes "tests") cycle.tests
+    ∷ count_field (codes "taken") cycle.taken
     ∷ count_field (codes "loads_and_stores") cycle.memory
     ∷ []
 

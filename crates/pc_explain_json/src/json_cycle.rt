@@ -86,6 +86,7 @@ fn put_counts(
     put_count(alloc, members, "iterations", u64::from(cycle.iterations))?;
     put_count(alloc, members, "items", u64::from(cycle.items))?;
     put_count(alloc, members, "tests", u64::from(cycle.tests))?;
+    put_count(alloc, members, "taken", u64::from(cycle.taken))?;
     put_count(alloc, members, "loads_and_stores", u64::from(cycle.memory))
 }
 

@@ -35,10 +35,11 @@ cycle_words cycle = states_front ++ (states_from 0 cycle.transitions ++ round_wo
 
 -- ---- its room
 
--- what stands on a cycle
-unfoldable pub standing_words : (items tests memory : ℕ) → List ℕ
-standing_words items tests memory =
-    codes "        items " ++ (decimal items ++ (codes ", tests " ++ (decimal tests ++ (codes ", loads and stores " ++ decimal memory))))
+-- what stands on a cycle, and how many of its tests are taken
+unfoldable pub standing_words : (items tests taken memory : ℕ) → List ℕ
+standing_words items tests taken memory =
+    codes "        items " ++ (decimal items ++ (codes ", tests " ++ (decimal tests ++ (codes " (" ++ (decimal taken
+    ++ (codes " taken), loads and stores " ++ decimal memory))))))
 
 -- how many rows are taken at least
 unfoldable pub least_words : (rows : ℕ) → List ℕ
@@ -50,7 +51,7 @@ needing_words rows resource = codes ": at least " ++ (decimal rows ++ (codes " r
 
 -- both
 unfoldable pub room_words : Cycle → List ℕ
-room_words cycle = standing_words cycle.items cycle.tests cycle.memory ++ needing_words cycle.least_rows cycle.resource
+room_words cycle = standing_words cycle.items cycle.tests cycle.taken cycle.memory ++ needing_words cycle.least_rows cycle.resource
 
 -- ---- its chain
 

@@ -117,15 +117,15 @@ fn push_room_words(text: &mut String, cycle: &Cycle) -> Result<(), AllocError>
     push_needing_words(text, cycle.least_rows, cycle.resource)
 }
 
-/// Appends to a text what stands on a cycle.
+/// Appends to a text what stands on a cycle, and how many of its tests are taken.
 #[tactic(auto, unfolding(crate::specs::CycleLines::standing_words))]
 fn push_standing_words(text: &mut String, cycle: &Cycle) -> Result<(), AllocError>
-    ensures { OnOk result (string_bytes text.new ≡ string_bytes text.old ++ standing_words cycle.now.items cycle.now.tests cycle.now.memory) }
+    ensures { OnOk result (string_bytes text.new ≡ string_bytes text.old ++ standing_words cycle.now.items cycle.now.tests cycle.now.taken cycle.now.memory) }
 {
-    let (items, tests, memory) = (cycle.items, cycle.tests, cycle.memory);
+    let (items, tests, taken, memory) = (cycle.items, cycle.tests, cycle.taken, cycle.memory);
     write!(
         text,
-        "        items {items}, tests {tests}, loads and stores {memory}"
+        "        items {items}, tests {tests} ({taken} taken), loads and stores {memory}"
     )
 }
 

@@ -21,11 +21,12 @@ use std::alloc::{AllocError, Global};
 /// its states. Where there are no explanations, one line says so, of the line that was asked for, if one was.
 ///
 /// A cycle leads from a state back to it. Its first line has the states in their order, how many rows once around takes, which is one
-/// for each, and how many iterations of the loop go by. The next has what stands on the way, the least number of rows that has room for
-/// so much, and of what there is too much for fewer. Where a chain of items was found round it, each of which reads what the one before
-/// wrote, a line has the lines of the source that these items come from, in their order, with `?` where one is not known, and the least
-/// number of rows for them, since each takes a row of its own. The last line has the greater of these two numbers beside the rows that
-/// once around takes: it says `reached` where they are as many, and else what percentage of the rows the number is, cut off.
+/// for each, and how many iterations of the loop go by. The next has what stands on the way and how many of the tests there are taken,
+/// the least number of rows that has room for so much, and of what there is too much for fewer. Where a chain of items was found round
+/// it, each of which has to stand in a later row than the one before, a line has the lines of the source that these items come from, in
+/// their order, with `?` where one is not known, and the least number of rows for them, since each takes a row of its own. The last
+/// line has the greater of these two numbers beside the rows that once around takes: it says `reached` where they are as many, and else
+/// what percentage of the rows the number is, cut off.
 ///
 /// A state has a line with what its row has of what it may have and what it takes, the row, drawn as the tree that it is, and a line for
 /// each item or test that waits: one that stands in the window, but not in this row. `waits: +1 line 5, load of x: needs +0 line 5` is a

@@ -24,5 +24,5 @@ IsSearched table limits region (Some extent) =
 pub record IsCompleted (flow : FlowGraph) (limits : Limits) (told : Told) (schedule : Schedule) : Type 0 where
   pub same : schedule.told ≡ told
   pub held : schedule.variables ≡ variables_of flow (states_in told.automaton) (tellings_in told.rows)
-  pub cycles : AllByRecursion (IsCycle limits (states_in told.automaton) (tellings_in told.rows)) schedule.cycles
+  pub cycles : AllByRecursion (IsCycle limits (states_in told.automaton) (tellings_in told.rows) told.waiting) schedule.cycles
   pub all_cycles : NoneIsPassedOver (states_in told.automaton) schedule.cycles
